@@ -1,0 +1,6 @@
+pub mod Floor
+pub mod Fraction
+pub mod Sample
+pub mod Order
+pub mod Ramp
+pub mod Starred

@@ -1,0 +1,42 @@
+-- The samples of a whole ramp, in order, and T, from its points alone.
+use mathlib.Core.Bool.{cond}
+use mathlib.Core.List.{List, [], _∷_}
+use Prim.Native.Nat.{ℕ, zero, suc, _+_}
+use lib.Dec.{eqb}
+use Rattle.sum.specs.Sample.{sampleOf}
+use Rattle.sum.specs.declared.Sum.{Sum}
+
+-- V and Δt, two words
+pub record Point : Type 0 where
+  pub value : ℕ
+  pub step : ℕ
+
+-- m samples left down to 1, and then what follows
+abbrev pub countdown : (ℕ → Sum) → ℕ → List Sum → List Sum
+countdown at zero rest = rest
+countdown at (suc m) rest = at (suc m) ∷ countdown at m rest
+
+-- at the end point: f is that V, the sample is given, and the ramp rests
+abbrev pub ending : ℕ → ℕ → Point → List Sum
+ending scale offset p = sampleOf scale (p .value) (p .value) 0 0 offset ∷ []
+
+-- from the point p on, with the points after it: p ends the ramp if its Δt is 0, or if it is the last
+abbrev pub rampFrom : ℕ → ℕ → Point → List Point → List Sum
+rampFrom scale offset p [] = ending scale offset p
+rampFrom scale offset p (q ∷ ps) =
+    cond (eqb (p .step) 0)
+    (ending scale offset p)
+    (countdown (λ m. sampleOf scale (p .value) (q .value) (p .step) m offset) (p .step) (rampFrom scale offset q ps))
+
+abbrev pub ramp : ℕ → ℕ → List Point → List Sum
+ramp scale offset [] = []
+ramp scale offset (p ∷ ps) = rampFrom scale offset p ps
+
+-- T, the sum of the time steps before the end point
+abbrev pub stepsFrom : Point → List Point → ℕ
+stepsFrom p [] = 0
+stepsFrom p (q ∷ ps) = cond (eqb (p .step) 0) 0 (p .step + stepsFrom q ps)
+
+abbrev pub stepsBefore : List Point → ℕ
+stepsBefore [] = 0
+stepsBefore (p ∷ ps) = stepsFrom p ps

@@ -1,0 +1,3 @@
+pub mod Sizes
+pub mod Split
+pub mod Number

@@ -1,0 +1,53 @@
+// Words of 16 bits: as signed numbers, as counters, as times, and lent by the slice.
+ghost use mathlib.Core.Path.{_≡_};
+ghost use lib.ListN.{getD, set};
+ghost use Rattle.word.specs.Word.{signedOf, grown, lasting};
+
+// A word as a signed number, from -32768 to 32767.
+pub fn signed(word: u16) -> i32
+    ensures { λ r. ⌜ r ≡ signedOf word ⌝ }
+{
+    if word < 0x8000 {
+        word as i32
+    } else {
+        (word as i32) - 0x10000
+    }
+}
+
+// A counter after one more: 65,535 goes round to 0.
+pub fn grow(count: u16) -> u16
+    ensures { λ r. ⌜ r ≡ grown count ⌝ }
+{
+    std::num::wrapping_add_u16(count, 1)
+}
+
+// A time in microseconds, as delays and countdowns have it.
+pub struct Micros(pub u32);
+
+// A time in samples of 10 microseconds, as time steps have it. Neither type is taken for the other.
+pub struct Samples(pub u16);
+
+impl Samples {
+    // How long the samples last.
+    pub fn micros(self) -> Micros
+        ensures { λ r. ⌜ r .0 ≡ lasting (self .0) ⌝ }
+    {
+        Micros(10 * (self.0 as u32))
+    }
+}
+
+// The word at a place of lent words; past their end it is 0.
+pub fn get(words: &[u16], at: usize) -> u16
+    ensures { λ r. ⌜ r ≡ getD (now (words .entry)) at 0 ⌝ }
+{
+    if at < words.len() { words[at] } else { 0 }
+}
+
+// Stores a word at a place of lent words; past their end nothing is stored.
+pub fn put(words: &mut [u16], at: usize, word: u16)
+    ensures { λ _. ⌜ now (words .exit) ≡ set (now (words .entry)) at word ⌝ }
+{
+    if at < words.len() {
+        words[at] = word;
+    }
+}
