@@ -1,0 +1,5 @@
+pub mod Rows
+pub mod Blocks
+pub mod Regions
+pub mod Values
+pub mod Listed
