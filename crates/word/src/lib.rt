@@ -2,6 +2,7 @@
 ghost use mathlib.Core.Path.{_≡_};
 ghost use lib.ListN.{getD, set};
 ghost use Rattle.word.specs.Word.{signedOf, grown, lasting};
+ghost use Rattle.word.specs.Table.{isEnd};
 
 // A word as a signed number, from -32768 to 32767.
 pub fn signed(word: u16) -> i32
@@ -34,6 +35,16 @@ impl Samples {
     {
         Micros(10 * (self.0 as u32))
     }
+}
+
+// A ramp ends at a point with time step 0, and at point 63 whatever its step.
+pub fn ends(point: usize, step: Samples) -> bool
+    ensures { λ r. ⌜ r ≡ isEnd point (step .0) ⌝ }
+{
+    if 63 <= point {
+        return true;
+    }
+    step.0 == 0
 }
 
 // The word at a place of lent words; past their end it is 0.
