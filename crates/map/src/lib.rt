@@ -1,7 +1,7 @@
-// The map of words: the regions of the address space, and what the word at an address is.
+// The map of words: what the word at an address is, and the values that it accepts.
 ghost use mathlib.Core.Path.{_≡_};
-ghost use Prim.Native.Nat.{_/_, _<_};
-ghost use Rattle.map.specs.Map.{regions, rowOf, holds, regionOf, registerOf, acceptedAt, channelRows, cardRows, scan, namedIn, point};
+ghost use Prim.Native.Nat.{_/_};
+ghost use Rattle.map.specs.Map.{registerOf, acceptedAt, channelRows, cardRows, scan, namedIn, point};
 ghost use Rattle.map.specs.Register.{allowed, allowedSetting};
 
 pub enum Access {
@@ -63,21 +63,6 @@ pub enum Register {
     ActiveEvent,
     Count(usize),
     Unlisted,
-}
-
-// The region that an address belongs to.
-pub fn region_of(address: u16) -> Found
-    ensures { λ r. ⌜ r ≡ regionOf address ⌝ }
-{
-    let mut k: usize = 0;
-    while k < 68 {
-        let r = entry(k);
-        if inside(r, address) {
-            return Found::At(r);
-        }
-        k = k + 1;
-    }
-    Found::Nothing
 }
 
 // What the word at an address is.
@@ -191,102 +176,3 @@ fn card_register(address: u16) -> Register
         _ => Register::Unlisted,
     }
 }
-
-// Row k of the table.
-fn entry(k: usize) -> Region
-    requires { ⌜ k < 68 ⌝ }
-    ensures { λ r. ⌜ r ≡ rowOf k .region ⌝ }
-{
-    let r = REGIONS[k];
-    let access = r.2;
-    Region {
-        first: r.0,
-        last: r.1,
-        access: access,
-    }
-}
-
-// The address lies in the region.
-fn inside(region: Region, address: u16) -> bool
-    ensures { λ b. ⌜ b ≡ holds region address ⌝ }
-{
-    if address < region.first {
-        return false;
-    }
-    address <= region.last
-}
-
-// First address, last address, access.
-struct Row(u16, u16, Access);
-
-// Each row of the paper's table for each of the four channels, and the card's own.
-const REGIONS: [Row; 68] = [
-    Row(0x0000, 0x07FF, Access::ReadWrite),
-    Row(0x0800, 0x081F, Access::ReadWrite),
-    Row(0x0840, 0x085F, Access::ReadWrite),
-    Row(0x0860, 0x087F, Access::ReadWrite),
-    Row(0x0880, 0x089F, Access::ReadWrite),
-    Row(0x08A0, 0x08BF, Access::ReadWrite),
-    Row(0x08E0, 0x08FF, Access::ReadWrite),
-    Row(0x0A00, 0x0A00, Access::ReadWrite),
-    Row(0x0A04, 0x0A04, Access::ReadWrite),
-    Row(0x0A30, 0x0A30, Access::Read),
-    Row(0x0A31, 0x0A31, Access::Read),
-    Row(0x0A32, 0x0A32, Access::Read),
-    Row(0x0A33, 0x0A33, Access::Read),
-    Row(0x0A34, 0x0A34, Access::Read),
-    Row(0x0A39, 0x0A39, Access::ReadWrite),
-    Row(0x1000, 0x17FF, Access::ReadWrite),
-    Row(0x1800, 0x181F, Access::ReadWrite),
-    Row(0x1840, 0x185F, Access::ReadWrite),
-    Row(0x1860, 0x187F, Access::ReadWrite),
-    Row(0x1880, 0x189F, Access::ReadWrite),
-    Row(0x18A0, 0x18BF, Access::ReadWrite),
-    Row(0x18E0, 0x18FF, Access::ReadWrite),
-    Row(0x1A00, 0x1A00, Access::ReadWrite),
-    Row(0x1A04, 0x1A04, Access::ReadWrite),
-    Row(0x1A30, 0x1A30, Access::Read),
-    Row(0x1A31, 0x1A31, Access::Read),
-    Row(0x1A32, 0x1A32, Access::Read),
-    Row(0x1A33, 0x1A33, Access::Read),
-    Row(0x1A34, 0x1A34, Access::Read),
-    Row(0x1A39, 0x1A39, Access::ReadWrite),
-    Row(0x2000, 0x27FF, Access::ReadWrite),
-    Row(0x2800, 0x281F, Access::ReadWrite),
-    Row(0x2840, 0x285F, Access::ReadWrite),
-    Row(0x2860, 0x287F, Access::ReadWrite),
-    Row(0x2880, 0x289F, Access::ReadWrite),
-    Row(0x28A0, 0x28BF, Access::ReadWrite),
-    Row(0x28E0, 0x28FF, Access::ReadWrite),
-    Row(0x2A00, 0x2A00, Access::ReadWrite),
-    Row(0x2A04, 0x2A04, Access::ReadWrite),
-    Row(0x2A30, 0x2A30, Access::Read),
-    Row(0x2A31, 0x2A31, Access::Read),
-    Row(0x2A32, 0x2A32, Access::Read),
-    Row(0x2A33, 0x2A33, Access::Read),
-    Row(0x2A34, 0x2A34, Access::Read),
-    Row(0x2A39, 0x2A39, Access::ReadWrite),
-    Row(0x3000, 0x37FF, Access::ReadWrite),
-    Row(0x3800, 0x381F, Access::ReadWrite),
-    Row(0x3840, 0x385F, Access::ReadWrite),
-    Row(0x3860, 0x387F, Access::ReadWrite),
-    Row(0x3880, 0x389F, Access::ReadWrite),
-    Row(0x38A0, 0x38BF, Access::ReadWrite),
-    Row(0x38E0, 0x38FF, Access::ReadWrite),
-    Row(0x3A00, 0x3A00, Access::ReadWrite),
-    Row(0x3A04, 0x3A04, Access::ReadWrite),
-    Row(0x3A30, 0x3A30, Access::Read),
-    Row(0x3A31, 0x3A31, Access::Read),
-    Row(0x3A32, 0x3A32, Access::Read),
-    Row(0x3A33, 0x3A33, Access::Read),
-    Row(0x3A34, 0x3A34, Access::Read),
-    Row(0x3A39, 0x3A39, Access::ReadWrite),
-    Row(0x4000, 0x40FF, Access::ReadWrite),
-    Row(0x4100, 0x41FF, Access::Read),
-    Row(0x4200, 0x4200, Access::ReadWrite),
-    Row(0x4201, 0x4201, Access::Write),
-    Row(0x4202, 0x4202, Access::Write),
-    Row(0x4210, 0x4210, Access::Read),
-    Row(0x4211, 0x4211, Access::Read),
-    Row(0x4220, 0x423F, Access::ReadWrite),
-];

@@ -1,7 +1,7 @@
--- `map::inside` meets its contract. Assumes nothing.
+-- `regions::inside` meets its contract. Assumes nothing.
 use borrow.Author.Tests.{le-leb, lt-leb}
-use Rattle.map.proofs.inside.Statement.{statement}
-use Rattle.map.proofs.inside.Tie as tie
+use Rattle.regions.proofs.inside.Statement.{statement}
+use Rattle.regions.proofs.inside.Tie as tie
 
 returns : tie.Need-returns
 returns c = rw (lt-leb _ _ (c .if1 .taken))
