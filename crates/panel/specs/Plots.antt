@@ -7,7 +7,7 @@ use lib.IntN.{pos}
 use lib.Ieee.{binary64, ofInt}
 use Rattle.word.specs.Word.{signedOf, lasting}
 use Rattle.word.specs.Table.{valueAt, stepAt, isEnd, stepsBefore}
-use Rattle.map.specs.Map.{base}
+use Rattle.map.specs.Addresses.{tableAt}
 use Rattle.panel.specs.declared.Plot.{Plot}
 use Rattle.panel.specs.declared.Plot.the-variants.{Point, Nothing}
 use Rattle.panel.specs.Shown.{voltsOf, Times}
@@ -27,10 +27,6 @@ plotFrom words first n =
     cond (reached words first n)
     (Point (record { volts = voltsOf (valueAt words first n); micros = ofInt binary64 (pos (since words first n)) }))
     Nothing
-
--- the first word of table r of channel c
-abbrev pub tableAt : ℕ → ℕ → ℕ
-tableAt c r = base c + 128 * r
 
 -- 'or a channel, table or point that isn't there'
 unfoldable pub plotOf : List ℕ → ℕ → ℕ → ℕ → Plot

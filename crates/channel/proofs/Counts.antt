@@ -1,0 +1,45 @@
+-- A countdown that falls by one and one that a trigger sets, as the code tells the cases apart. Assumes nothing.
+use mathlib.Core.Path.{_≡_, ap, _∙_}
+use mathlib.Core.Bool.{cond}
+use mathlib.Core.List.{List}
+use Prim.Native.Nat.{ℕ, _-_, _≤_, _<_, max}
+use native.Mathlib.Omega.{arith}
+use borrow.Author.Tests.{eq-eqb, ne-eqb}
+use lib.Dec.{eqb}
+use Rattle.map.specs.Addresses.{delayAt}
+use Rattle.channel.specs.declared.Channel.{Channel}
+use Rattle.channel.specs.declared.Ramp.{Ramp}
+use Rattle.channel.specs.declared.Phase.the-variants.{Counting}
+use Rattle.channel.specs.Ramp.{advance}
+use Rattle.channel.specs.Channel.{Side, side, with, word, firstOf, rampOf, lead, load, start, countTo, countdown, triggered}
+
+module _ (s l : List ℕ) (c : ℕ) (ch : Channel) where
+  module _ (older : Ramp) (n : ℕ) where
+    -- the countdown reaches 0, reaches 10, or neither
+    pub at-start : n ≤ 1 → countTo (n - 1) older s l c ch ≡ side (start s l c ch) l
+    unfolding countTo
+    at-start h = rw (eq-eqb (n - 1) 0 (omega arith))
+
+    pub at-load : n ≡ 11 → countTo (n - 1) older s l c ch ≡ load s l c ch (ch .level)
+    unfolding countTo
+    at-load h = rw (ne-eqb (n - 1) 0 (λ e. absurd (omega arith)), eq-eqb (n - 1) lead (omega arith))
+
+    pub on : 1 < n → (n ≡ 11 → ⊥)
+        → countTo (n - 1) older s l c ch
+        ≡ side (with ch (Counting (record { 0 = n - 1 }) (advance l (firstOf c) (ch .loaded) older (ch .shown) .ramp)) (advance l (firstOf c) (ch .loaded) older (ch .shown) .shown)) l
+    unfolding countTo
+    on h k = rw (ne-eqb (n - 1) 0 (λ e. absurd (omega arith)), ne-eqb (n - 1) lead (λ e. k (omega arith)))
+
+  module _ (level : ℕ) where
+    -- a delay of at most 10 loads at once; a longer one counts
+    pub at-once : word s (delayAt c level) ≤ 10 → triggered s l c ch level ≡ load s l c ch level
+    unfolding triggered
+    at-once h = rw (eq-eqb (countdown s c level) lead (omega arith))
+
+    pub later : 10 < word s (delayAt c level)
+        → triggered s l c ch level ≡ side (record { phase = Counting (record { 0 = word s (delayAt c level) }) (rampOf (ch .phase)); level = level; loaded = ch .loaded; shown = ch .shown }) l
+    unfolding triggered
+    later h =
+        let e : countdown s c level ≡ word s (delayAt c level) = omega arith in
+        rw (ne-eqb (countdown s c level) lead (λ q. absurd (omega arith)))
+        (ap (λ (d : ℕ). side (record { phase = Counting (record { 0 = d }) (rampOf (ch .phase)); level = level; loaded = ch .loaded; shown = ch .shown }) l) e)

@@ -1,0 +1,53 @@
+-- 'One tick, one microsecond': a ramp on its way through its table, whose first word is at `first` of the lent words.
+use mathlib.Core.Bool.{cond}
+use mathlib.Core.List.{List}
+use Prim.Native.Nat.{ℕ, _+_, _-_}
+use lib.Dec.{ltb, eqb}
+use Rattle.word.specs.Word.{grown, lasting}
+use Rattle.word.specs.Table.{valueAt, stepAt, isEnd}
+use Rattle.sum.specs.declared.Sum.{Sum}
+use Rattle.sum.specs.declared.Sum.the-variants.{Word, Overflow}
+use Rattle.sum.specs.Sample.{sampleOf}
+use Rattle.channel.specs.declared.Place.{Place}
+use Rattle.channel.specs.declared.Shown.{Shown}
+use Rattle.channel.specs.declared.Loaded.{Loaded}
+use Rattle.channel.specs.declared.Moved.{Moved}
+use Rattle.channel.specs.declared.Ramp.{Ramp}
+use Rattle.channel.specs.declared.Ramp.the-variants.{Still, Going}
+
+-- a sample's place: segment n, m samples left
+abbrev pub place : ℕ → ℕ → Place
+place n m = record { segment = n; left = record { 0 = m } }
+
+-- the place of point n; at the end point no samples are left: 'A34 is then 0 and A33 the point's number'
+unfoldable pub enter : List ℕ → ℕ → ℕ → Place
+enter w first n = place n (cond (isEnd n (stepAt w first n)) 0 (stepAt w first n))
+
+-- the samples left go from Δt down to 1: 'next after m = 1 comes point n+1'
+unfoldable pub next : List ℕ → ℕ → Place → Place
+next w first p = cond (ltb 1 (p .left .0)) (place (p .segment) (p .left .0 - 1)) (enter w first (grown (p .segment)))
+
+-- 'in segment n with m samples left'; at the end point f is that V
+unfoldable pub sampleAt : List ℕ → ℕ → Loaded → Place → Sum
+sampleAt w first l p =
+    cond (eqb (p .left .0) 0)
+    (sampleOf (l .scale) (valueAt w first (p .segment)) (valueAt w first (p .segment)) 0 0 (l .offset))
+    (sampleOf (l .scale) (valueAt w first (p .segment)) (valueAt w first (p .segment + 1)) (stepAt w first (p .segment)) (p .left .0) (l .offset))
+
+-- 'outside the range the output stays and A39 grows by 1'; 'A33 and A34 show the last sample's n and m'
+abbrev pub put : Sum → Place → Shown → Shown
+put (Word v) p s = record { output = v; place = p; overflow = s .overflow }
+put Overflow p s = record { output = s .output; place = p; overflow = grown (s .overflow) }
+
+abbrev pub give : List ℕ → ℕ → Loaded → Place → Shown → Shown
+give w first l p s = put (sampleAt w first l p) p s
+
+-- the sample is given; at the end point the ramp rests, elsewhere the next comes one sample's time later
+unfoldable pub given : List ℕ → ℕ → Loaded → Place → Shown → Moved
+given w first l p s = record { ramp = cond (eqb (p .left .0) 0) Still (Going p (record { 0 = lasting 1 })); shown = give w first l p s }
+
+-- one tick of a ramp
+unfoldable pub advance : List ℕ → ℕ → Loaded → Ramp → Shown → Moved
+advance w first l Still s = record { ramp = Still; shown = s }
+advance w first l (Going p t) s =
+    cond (ltb 1 (t .0)) (record { ramp = Going p (record { 0 = t .0 - 1 }); shown = s }) (given w first l (next w first p) s)
