@@ -1,0 +1,39 @@
+-- Ticks add up, and no tick touches a setting. Assumes nothing.
+use mathlib.Core.Path.{_≡_, refl, ap, _∙_}
+use mathlib.Core.List.{List}
+use Prim.Native.Nat.{ℕ, zero, suc, _+_, _-_, _≤_, _<_}
+use native.Mathlib.Nat.{zero-add, suc-add}
+use native.Mathlib.Omega.{arith}
+use Rattle.card.specs.declared.Card.{Card}
+use Rattle.card.specs.Card.{State, state}
+use Rattle.card.specs.Tick.{advanced, ticks}
+
+-- TICKS (a + b) IS TICKS b AFTER TICKS a
+pub ticks-add : (a b : ℕ) (st : State) → ticks (a + b) st ≡ ticks b (ticks a st)
+unfolding ticks
+ticks-add zero b st = ap (λ (n : ℕ). ticks n st) (zero-add b)
+ticks-add (suc a) b st = ap (λ (n : ℕ). ticks n st) (suc-add a b) ∙ ticks-add a b (advanced st)
+
+-- A TICK WITHOUT EVENT TOUCHES NO SETTING
+pub settings-kept : (n : ℕ) (st : State) → ticks n st .settings ≡ st .settings
+unfolding ticks advanced
+settings-kept zero st = refl
+settings-kept (suc n) st = settings-kept n (advanced st)
+
+-- a state whose parts are those of another over the same settings
+pub same-state : {k : Card} {s l : List ℕ} (st : State) → k ≡ st .card → l ≡ st .tables → s ≡ st .settings → state k s l ≡ st
+same-state {k} {s} {l} st p q r =
+    ap (λ (x : Card). state x s l) p ∙ ap (λ (x : List ℕ). state (st .card) s x) q ∙ ap (λ (x : List ℕ). state (st .card) x (st .tables)) r
+
+-- one of n ticks, of which i are done
+pub one-more : (n i : ℕ) (st : State) → i < n → ticks (n - i) st ≡ ticks (n - (i + 1)) (advanced st)
+unfolding ticks
+one-more n i st h = let e : n - i ≡ suc (n - (i + 1)) = omega arith in ap (λ (m : ℕ). ticks m st) e
+
+-- none done, and all done
+pub none-done : (n : ℕ) (st : State) → ticks (n - 0) st ≡ ticks n st
+none-done n st = let e : n - 0 ≡ n = omega arith in ap (λ (m : ℕ). ticks m st) e
+
+pub all-done : (n i : ℕ) (st : State) → i ≤ n → n ≤ i → st ≡ ticks (n - i) st
+unfolding ticks
+all-done n i st g h = let e : 0 ≡ n - i = omega arith in ap (λ (m : ℕ). ticks m st) e

@@ -1,0 +1,60 @@
+-- The card: four channels, the level counts, the active level and its event; beside it the lent words.
+use mathlib.Core.Bool.{cond}
+use mathlib.Core.List.{List, [], _∷_}
+use Prim.Native.Nat.{ℕ}
+use lib.Dec.{ltb}
+use lib.ListN.{getD, set}
+use Rattle.channel.specs.declared.Channel.{Channel}
+use Rattle.channel.specs.declared.Phase.the-variants.{Rest}
+use Rattle.channel.specs.Ramp.{place}
+use Rattle.channel.specs.Channel.{Side}
+use Rattle.card.specs.declared.Card.{Card}
+
+-- the whole state: the card, the settings by address, and the four loaded tables
+pub record State : Type 0 where
+  pub card : Card
+  pub settings : List ℕ
+  pub tables : List ℕ
+
+abbrev pub state : Card → List ℕ → List ℕ → State
+state k s l = record { card = k; settings = s; tables = l }
+
+-- a channel that is not there
+abbrev pub noChannel : Channel
+noChannel =
+    record {
+      phase = Rest;
+      level = 0;
+      loaded = record { table = 0; scale = 0; offset = 0 };
+      shown = record { output = 0; place = place 0 0; overflow = 0 };
+    }
+
+-- channel c
+abbrev pub channelOf : Card → ℕ → Channel
+channelOf k c = cond (ltb c 4) (getD (k .channels) c noChannel) noChannel
+
+-- the card with another channel c, with another count, with other channels
+abbrev pub withChannel : Card → ℕ → Channel → Card
+withChannel k c ch = cond (ltb c 4) (record { channels = set (k .channels) c ch; counts = k .counts; level = k .level; event = k .event }) k
+
+abbrev pub countOf : Card → ℕ → ℕ
+countOf k level = cond (ltb level 32) (getD (k .counts) level 0) 0
+
+abbrev pub withCount : Card → ℕ → ℕ → Card
+withCount k level n = cond (ltb level 32) (record { channels = k .channels; counts = set (k .counts) level n; level = k .level; event = k .event }) k
+
+abbrev pub withChannels : Card → List Channel → Card
+withChannels k chs = record { channels = chs; counts = k .counts; level = k .level; event = k .event }
+
+-- what happens on each channel, one after the other, over the loaded tables
+pub record All : Type 0 where
+  pub channels : List Channel
+  pub tables : List ℕ
+
+unfoldable pub onAll : (ℕ → List ℕ → Channel → Side) → Card → List ℕ → All
+onAll f k l =
+    let a : Side = f 0 l (channelOf k 0) in
+    let b : Side = f 1 (a .tables) (channelOf k 1) in
+    let c : Side = f 2 (b .tables) (channelOf k 2) in
+    let d : Side = f 3 (c .tables) (channelOf k 3) in
+    record { channels = a .channel ∷ b .channel ∷ c .channel ∷ d .channel ∷ []; tables = d .tables }

@@ -1,0 +1,4 @@
+pub mod Card
+pub mod Trigger
+pub mod Tick
+pub mod Reset

@@ -1,0 +1,33 @@
+-- 'After a reset'.
+use mathlib.Core.List.{List, [], _∷_}
+use Prim.Native.Nat.{ℕ}
+use lib.ListN.{replicate}
+use Rattle.slots.specs.Slots.{filled, erased}
+use Rattle.map.specs.Addresses.{scaleAt}
+use Rattle.channel.specs.Channel.{resetChannel}
+use Rattle.card.specs.declared.Card.{Card}
+use Rattle.card.specs.Card.{State, state}
+
+-- 'scale factors 0x0100', of channel c
+abbrev pub scalesReset : ℕ → List ℕ → List ℕ
+scalesReset c s = filled 32 s (scaleAt c 0) 0x0100
+
+-- 'scale factors 0x0100; trigger slots 0xFE; all else 0': 16,960 words, the last of them the last level count's
+unfoldable pub settingsReset : List ℕ → List ℕ
+settingsReset s = erased (scalesReset 3 (scalesReset 2 (scalesReset 1 (scalesReset 0 (filled 16960 s 0 0)))))
+
+unfoldable pub tablesReset : List ℕ → List ℕ
+tablesReset l = filled 512 l 0 0
+
+-- '0x4211 is 0xFE; all else 0; no countdown, no ramp'
+unfoldable pub cardReset : Card
+cardReset =
+    record {
+      channels = resetChannel ∷ resetChannel ∷ resetChannel ∷ resetChannel ∷ [];
+      counts = replicate 32 0;
+      level = 0;
+      event = 0xFE;
+    }
+
+abbrev pub resetOf : List ℕ → List ℕ → State
+resetOf s l = state cardReset (settingsReset s) (tablesReset l)

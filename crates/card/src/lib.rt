@@ -1,0 +1,212 @@
+// The card: four channels, triggers, clock events and ticks. Settings and loaded tables are lent, the rest goes by value.
+use channel::Channel;
+use channel::Loaded;
+use channel::Phase;
+use channel::Place;
+use channel::Shown;
+use slots::Holder;
+use word::Samples;
+ghost use mathlib.Core.Path.{_≡_};
+ghost use Rattle.card.specs.Card.{state, noChannel, channelOf, withChannel, countOf, withCount, withChannels};
+ghost use Rattle.card.specs.Trigger.{counted, struck, triggerOf, acceptedOf, eventOf};
+ghost use Rattle.card.specs.Tick.{moved, advanced, tickWith, ticks};
+ghost use Rattle.card.specs.Reset.{settingsReset, tablesReset, cardReset};
+
+pub struct Card {
+    pub channels: [Channel; 4],
+    pub counts: [u16; 32],
+    pub level: u16,
+    pub event: u16,
+}
+
+// Settings, loaded tables and card after a reset.
+pub fn reset(settings: &mut [u16], tables: &mut [u16]) -> Card
+    ensures { λ r. ⌜ (r ≡ cardReset) × (now (settings .exit) ≡ settingsReset (now (settings .entry))) × (now (tables .exit) ≡ tablesReset (now (tables .entry))) ⌝ }
+{
+    reset_settings(settings);
+    slots::fill(tables, 0, 512, 0);
+    fresh()
+}
+
+// One tick: every channel moves on by a microsecond, then the event is taken. 0xFE is no event.
+pub fn tick(settings: &[u16], tables: &mut [u16], card: Card, event: u16) -> Card
+    ensures { λ r. ⌜ (r ≡ tickWith (state card (now (settings .entry)) (now (tables .entry))) event .card) × (now (tables .exit) ≡ tickWith (state card (now (settings .entry)) (now (tables .entry))) event .tables) ⌝ }
+{
+    let k = advance(settings, tables, card);
+    receive(settings, tables, k, event)
+}
+
+// n ticks with no event.
+pub fn run(settings: &[u16], tables: &mut [u16], card: Card, n: u32) -> Card
+    ensures { λ r. ⌜ (r ≡ ticks n (state card (now (settings .entry)) (now (tables .entry))) .card) × (now (tables .exit) ≡ ticks n (state card (now (settings .entry)) (now (tables .entry))) .tables) ⌝ }
+{
+    let mut k = card;
+    let mut i: u32 = 0;
+    while i < n {
+        k = advance(settings, tables, k);
+        i = i + 1;
+    }
+    k
+}
+
+// An accepted trigger of a level: its count, every channel's countdown, then the level and event shown.
+pub fn trigger(settings: &[u16], tables: &mut [u16], card: Card, level: u16, event: u16) -> Card
+    ensures { λ r. ⌜ (r ≡ triggerOf (state card (now (settings .entry)) (now (tables .entry))) level event .card) × (now (tables .exit) ≡ triggerOf (state card (now (settings .entry)) (now (tables .entry))) level event .tables) ⌝ }
+{
+    let mut k = count_trigger(strike(settings, tables, card, level), level);
+    k.level = level;
+    k.event = event;
+    k
+}
+
+// Channel c, or an empty one where there is none.
+pub fn channel_of(card: Card, c: usize) -> Channel
+    ensures { λ r. ⌜ r ≡ channelOf card c ⌝ }
+{
+    if c < 4 {
+        card.channels[c]
+    } else {
+        no_channel()
+    }
+}
+
+// The card with another channel c.
+pub fn with_channel(card: Card, c: usize, ch: Channel) -> Card
+    ensures { λ r. ⌜ r ≡ withChannel card c ch ⌝ }
+{
+    let mut k = card;
+    if c < 4 {
+        k.channels[c] = ch;
+    }
+    k
+}
+
+// A level's count.
+pub fn count_of(card: Card, level: usize) -> u16
+    ensures { λ r. ⌜ r ≡ countOf card level ⌝ }
+{
+    if level < 32 { card.counts[level] } else { 0 }
+}
+
+// The card with another count of a level.
+pub fn with_count(card: Card, level: usize, n: u16) -> Card
+    ensures { λ r. ⌜ r ≡ withCount card level n ⌝ }
+{
+    let mut k = card;
+    if level < 32 {
+        k.counts[level] = n;
+    }
+    k
+}
+
+// Every channel one microsecond on.
+fn advance(settings: &[u16], tables: &mut [u16], card: Card) -> Card
+    ensures { λ r. ⌜ (r ≡ advanced (state card (now (settings .entry)) (now (tables .entry))) .card) × (now (tables .exit) ≡ advanced (state card (now (settings .entry)) (now (tables .entry))) .tables) ⌝ }
+{
+    let a = channel::tick(settings, tables, 0, card.channels[0]);
+    let b = channel::tick(settings, tables, 1, card.channels[1]);
+    let c = channel::tick(settings, tables, 2, card.channels[2]);
+    let d = channel::tick(settings, tables, 3, card.channels[3]);
+    let counts = card.counts;
+    Card {
+        channels: [a, b, c, d],
+        counts: counts,
+        level: card.level,
+        event: card.event,
+    }
+}
+
+// Every channel's countdown is set anew for a level.
+fn strike(settings: &[u16], tables: &mut [u16], card: Card, level: u16) -> Card
+    ensures { λ r. ⌜ (r ≡ withChannels card (struck (state card (now (settings .entry)) (now (tables .entry))) level .channels)) × (now (tables .exit) ≡ struck (state card (now (settings .entry)) (now (tables .entry))) level .tables) ⌝ }
+{
+    let a = channel::trigger(settings, tables, 0, card.channels[0], level);
+    let b = channel::trigger(settings, tables, 1, card.channels[1], level);
+    let c = channel::trigger(settings, tables, 2, card.channels[2], level);
+    let d = channel::trigger(settings, tables, 3, card.channels[3], level);
+    let counts = card.counts;
+    Card {
+        channels: [a, b, c, d],
+        counts: counts,
+        level: card.level,
+        event: card.event,
+    }
+}
+
+// One more trigger of a level.
+fn count_trigger(card: Card, level: u16) -> Card
+    ensures { λ r. ⌜ r ≡ counted card level ⌝ }
+{
+    let l = level as usize;
+    with_count(card, l, word::grow(count_of(card, l)))
+}
+
+// The level of the accepted trigger that an event is, if it is one.
+fn accepted(settings: &[u16], event: u16) -> Holder
+    ensures { λ r. ⌜ r ≡ acceptedOf (now (settings .entry)) event ⌝ }
+{
+    if event == 0xFE {
+        return Holder::Nobody;
+    }
+    if word::get(settings, 0x4200) == 1 {
+        slots::held_by(settings, event)
+    } else {
+        Holder::Nobody
+    }
+}
+
+// An event received.
+fn receive(settings: &[u16], tables: &mut [u16], card: Card, event: u16) -> Card
+    ensures { λ r. ⌜ (r ≡ eventOf (state card (now (settings .entry)) (now (tables .entry))) event .card) × (now (tables .exit) ≡ eventOf (state card (now (settings .entry)) (now (tables .entry))) event .tables) ⌝ }
+{
+    match accepted(settings, event) {
+        Holder::Level(level) => trigger(settings, tables, card, level, event),
+        Holder::Nobody => card,
+    }
+}
+
+fn reset_settings(settings: &mut [u16])
+    ensures { λ _. ⌜ now (settings .exit) ≡ settingsReset (now (settings .entry)) ⌝ }
+{
+    slots::fill(settings, 0, 16960, 0);
+    slots::fill(settings, 0x0860, 32, 0x0100);
+    slots::fill(settings, 0x1860, 32, 0x0100);
+    slots::fill(settings, 0x2860, 32, 0x0100);
+    slots::fill(settings, 0x3860, 32, 0x0100);
+    slots::erase(settings)
+}
+
+// A channel that is not there.
+fn no_channel() -> Channel
+    ensures { λ r. ⌜ r ≡ noChannel ⌝ }
+{
+    Channel {
+        phase: Phase::Rest,
+        level: 0,
+        loaded: Loaded {
+            table: 0,
+            scale: 0,
+            offset: 0,
+        },
+        shown: Shown {
+            output: 0,
+            place: Place {
+                segment: 0,
+                left: Samples(0),
+            },
+            overflow: 0,
+        },
+    }
+}
+
+fn fresh() -> Card
+    ensures { λ r. ⌜ r ≡ cardReset ⌝ }
+{
+    let ch = channel::fresh();
+    Card {
+        channels: [ch, ch, ch, ch],
+        counts: [0; 32],
+        level: 0,
+        event: 0xFE,
+    }
+}
