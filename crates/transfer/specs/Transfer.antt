@@ -1,0 +1,116 @@
+-- 'Transfers and their numbers'.
+use mathlib.Core.Bool.{Bool, true, false, _||_, cond}
+use mathlib.Core.List.{List, [], _∷_}
+use Prim.Native.Nat.{ℕ, zero, suc, _+_}
+use lib.Dec.{ltb, eqb}
+use lib.ListN.{set, length, take}
+use Rattle.map.specs.declared.Access.{Access}
+use Rattle.map.specs.declared.Access.the-variants as A
+use Rattle.map.specs.declared.Found.{Found}
+use Rattle.map.specs.declared.Found.the-variants.{At, Nothing}
+use Rattle.map.specs.Map.{regionOf}
+use Rattle.card.specs.declared.Card.{Card}
+use Rattle.card.specs.Card.{State}
+use Rattle.transfer.specs.declared.Why.{Why}
+use Rattle.transfer.specs.declared.Why.the-variants.{Fixed, Value, Held, Running}
+use Rattle.transfer.specs.declared.Verdict.{Verdict}
+use Rattle.transfer.specs.declared.Verdict.the-variants as D
+use Rattle.transfer.specs.declared.Answer.{Answer}
+use Rattle.transfer.specs.declared.Answer.the-variants.{Done, BadCount, NoRegion, NoAccess, Beyond, Refused}
+use Rattle.transfer.specs.declared.Written.{Written}
+use Rattle.transfer.specs.Word.{One, writeWord, readWord}
+
+-- ---- the paper's number of each answer, and the words processed
+
+abbrev pub whyNumber : Why → ℕ
+whyNumber Fixed = 5
+whyNumber Value = 6
+whyNumber Held = 7
+whyNumber Running = 8
+
+abbrev pub numberOf : Answer → ℕ
+numberOf (Done n) = 0
+numberOf BadCount = 1
+numberOf NoRegion = 2
+numberOf NoAccess = 3
+numberOf (Beyond n) = 4
+numberOf (Refused why n) = whyNumber why
+
+abbrev pub processedOf : Answer → ℕ
+processedOf (Done n) = n
+processedOf BadCount = 0
+processedOf NoRegion = 0
+processedOf NoAccess = 0
+processedOf (Beyond n) = n
+processedOf (Refused why n) = n
+
+-- ---- 'order: 1, 2, 3 once'
+
+-- 1: 'count 0, above 16,381, or above the slice's length'
+abbrev pub badCount : ℕ → ℕ → Bool
+badCount count len = eqb count 0 || (ltb 16381 count || ltb len count)
+
+-- 3: 'region lacks this access'
+abbrev pub writable : Access → Bool
+writable A.ReadWrite = true
+writable A.Read = false
+writable A.Write = true
+
+abbrev pub readable : Access → Bool
+readable A.ReadWrite = true
+readable A.Read = true
+readable A.Write = false
+
+-- ---- a write: 'word by word, upwards, and stops at the first word refused'
+
+pub record Out : Type 0 where
+  pub state : State
+  pub answer : Answer
+
+abbrev pub out : State → Answer → Out
+out st w = record { state = st; answer = w }
+
+-- after a word: the rest, or the stop with i words done
+abbrev pub goOn : Verdict → State → ℕ → Out → Out
+goOn D.Accepted st i rest = rest
+goOn (D.Refused why) st i rest = out st (Refused why i)
+
+-- the words from address a on, after i words, in a region up to `last`; 4 where the next word lies beyond it
+unfoldable pub writeWords : State → ℕ → ℕ → ℕ → List ℕ → Out
+writeWords st a last i [] = out st (Done i)
+writeWords st a last i (v ∷ vs) =
+    cond (ltb last a)
+    (out st (Beyond i))
+    (goOn (writeWord st a v .verdict) (writeWord st a v .state) i (writeWords (writeWord st a v .state) (a + 1) last (i + 1) vs))
+
+abbrev pub writeIn : State → ℕ → ℕ → List ℕ → Found → Out
+writeIn st start count ws Nothing = out st NoRegion
+writeIn st start count ws (At r) = cond (writable (r .access)) (writeWords st start (r .last) 0 (take count ws)) (out st NoAccess)
+
+unfoldable pub writeOf : State → ℕ → ℕ → List ℕ → Out
+writeOf st start count ws = cond (badCount count (length ws)) (out st BadCount) (writeIn st start count ws (regionOf start))
+
+-- what a write hands back by value
+abbrev pub written : Out → Written
+written o = record { card = o .state .card; answer = o .answer }
+
+-- ---- a read: 'fills the slice's first processed words and has no other effect; the rest of the slice stays'
+
+pub record Filled : Type 0 where
+  pub words : List ℕ
+  pub answer : Answer
+
+abbrev pub filled : List ℕ → Answer → Filled
+filled ws w = record { words = ws; answer = w }
+
+-- n words from address a on, into place i of ws and on
+unfoldable pub readWords : List ℕ → Card → ℕ → ℕ → ℕ → ℕ → List ℕ → Filled
+readWords s k a last i zero ws = filled ws (Done i)
+readWords s k a last i (suc n) ws = cond (ltb last a) (filled ws (Beyond i)) (readWords s k (a + 1) last (i + 1) n (set ws i (readWord s k a)))
+
+abbrev pub readIn : List ℕ → Card → ℕ → ℕ → List ℕ → Found → Filled
+readIn s k start count ws Nothing = filled ws NoRegion
+readIn s k start count ws (At r) = cond (readable (r .access)) (readWords s k start (r .last) 0 count ws) (filled ws NoAccess)
+
+unfoldable pub readOf : List ℕ → Card → ℕ → ℕ → List ℕ → Filled
+readOf s k start count ws = cond (badCount count (length ws)) (filled ws BadCount) (readIn s k start count ws (regionOf start))

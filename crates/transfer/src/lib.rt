@@ -1,0 +1,531 @@
+// Transfers: words written to the card and read from it, by address, with the paper's numbers.
+use card::Card;
+use channel::Channel;
+use channel::Shown;
+use map::Access;
+use map::Field;
+use map::Found;
+use map::Register;
+use slots::Holder;
+ghost use mathlib.Core.Path.{_≡_};
+ghost use Prim.Native.Nat.{_≤_};
+ghost use lib.ListN.{take, length};
+ghost use Rattle.map.specs.Map.{registerOf};
+ghost use Rattle.channel.specs.Channel.{with};
+ghost use Rattle.card.specs.Card.{state};
+ghost use Rattle.transfer.specs.Word.{fixedAt, isLevel, heldAt, runningAt, judgeOf, effectOf, outputTo, overflowCleared, performOf, writeWord, statusOf, readWord};
+ghost use Rattle.transfer.specs.Transfer.{whyNumber, numberOf, processedOf, badCount, writable, readable, written, writeWords, writeOf, readWords, readOf};
+
+// Why a word is refused.
+pub enum Why {
+    Fixed,
+    Value,
+    Held,
+    Running,
+}
+
+pub enum Verdict {
+    Accepted,
+    Refused(Why),
+}
+
+// What an accepted word does: all that a write can do.
+pub enum Effect {
+    // The word at the address becomes this.
+    Keep(u16),
+    // A channel's output becomes this.
+    Output(usize, u16),
+    ClearOverflow(usize),
+    ClearCount(usize),
+    Erase,
+    // A manual trigger of this level.
+    Trigger(u16),
+    Nothing,
+}
+
+// The answer of a transfer; what it carries is the words processed.
+pub enum Answer {
+    Done(usize),
+    BadCount,
+    NoRegion,
+    NoAccess,
+    Beyond(usize),
+    Refused(Why, usize),
+}
+
+pub struct Written {
+    pub card: Card,
+    pub answer: Answer,
+}
+
+// The card after one word, and whether the word was done.
+pub struct Stepped {
+    pub card: Card,
+    pub verdict: Verdict,
+}
+
+// A write of the first `count` words from an address on.
+pub fn write(
+    settings: &mut [u16],
+    tables: &mut [u16],
+    card: Card,
+    start: u16,
+    count: usize,
+    words: &[u16],
+) -> Written
+    ensures { λ r. ⌜ (r ≡ written (writeOf (state card (now (settings .entry)) (now (tables .entry))) start count (now (words .entry)))) × (now (settings .exit) ≡ writeOf (state card (now (settings .entry)) (now (tables .entry))) start count (now (words .entry)) .state .settings) × (now (tables .exit) ≡ writeOf (state card (now (settings .entry)) (now (tables .entry))) start count (now (words .entry)) .state .tables) ⌝ }
+{
+    if bad_count(count, words.len()) {
+        return Written {
+            card: card,
+            answer: Answer::BadCount,
+        };
+    }
+    match regions::region_of(start) {
+        Found::Nothing => Written {
+            card: card,
+            answer: Answer::NoRegion,
+        },
+        Found::At(r) => {
+            let access = r.access;
+            if may_write(access) {
+                write_words(settings, tables, card, start, r.last, words, count)
+            } else {
+                Written {
+                    card: card,
+                    answer: Answer::NoAccess,
+                }
+            }
+        }
+    }
+}
+
+// A read of `count` words from an address on, into the first words of the slice.
+pub fn read(settings: &[u16], card: Card, start: u16, count: usize, words: &mut [u16]) -> Answer
+    ensures { λ r. ⌜ (r ≡ readOf (now (settings .entry)) card start count (now (words .entry)) .answer) × (now (words .exit) ≡ readOf (now (settings .entry)) card start count (now (words .entry)) .words) ⌝ }
+{
+    if bad_count(count, words.len()) {
+        return Answer::BadCount;
+    }
+    match regions::region_of(start) {
+        Found::Nothing => Answer::NoRegion,
+        Found::At(r) => {
+            let access = r.access;
+            if may_read(access) {
+                read_words(settings, card, start, r.last, words, count)
+            } else {
+                Answer::NoAccess
+            }
+        }
+    }
+}
+
+// The paper's number of an answer.
+pub fn number(answer: Answer) -> u16
+    ensures { λ r. ⌜ r ≡ numberOf answer ⌝ }
+{
+    match answer {
+        Answer::Done(_) => 0,
+        Answer::BadCount => 1,
+        Answer::NoRegion => 2,
+        Answer::NoAccess => 3,
+        Answer::Beyond(_) => 4,
+        Answer::Refused(why, _) => why_number(why),
+    }
+}
+
+// The words processed.
+pub fn processed(answer: Answer) -> usize
+    ensures { λ r. ⌜ r ≡ processedOf answer ⌝ }
+{
+    match answer {
+        Answer::Done(n) => n,
+        Answer::BadCount => 0,
+        Answer::NoRegion => 0,
+        Answer::NoAccess => 0,
+        Answer::Beyond(n) => n,
+        Answer::Refused(_, n) => n,
+    }
+}
+
+fn why_number(why: Why) -> u16
+    ensures { λ r. ⌜ r ≡ whyNumber why ⌝ }
+{
+    match why {
+        Why::Fixed => 5,
+        Why::Value => 6,
+        Why::Held => 7,
+        Why::Running => 8,
+    }
+}
+
+fn bad_count(count: usize, len: usize) -> bool
+    ensures { λ b. ⌜ b ≡ badCount count len ⌝ }
+{
+    if count == 0 {
+        return true;
+    }
+    if 16381 < count {
+        return true;
+    }
+    len < count
+}
+
+fn may_write(access: Access) -> bool
+    ensures { λ b. ⌜ b ≡ writable access ⌝ }
+{
+    match access {
+        Access::ReadWrite => true,
+        Access::Read => false,
+        Access::Write => true,
+    }
+}
+
+fn may_read(access: Access) -> bool
+    ensures { λ b. ⌜ b ≡ readable access ⌝ }
+{
+    match access {
+        Access::ReadWrite => true,
+        Access::Read => true,
+        Access::Write => false,
+    }
+}
+
+// The words written one after the other, in a region up to `last`.
+fn write_words(
+    settings: &mut [u16],
+    tables: &mut [u16],
+    card: Card,
+    start: u16,
+    last: u16,
+    words: &[u16],
+    count: usize,
+) -> Written
+    requires { ⌜ (count ≤ length (now words)) × (count ≤ 16381) ⌝ }
+    ensures { λ r. ⌜ (r ≡ written (writeWords (state card (now (settings .entry)) (now (tables .entry))) start last 0 (take count (now (words .entry))))) × (now (settings .exit) ≡ writeWords (state card (now (settings .entry)) (now (tables .entry))) start last 0 (take count (now (words .entry))) .state .settings) × (now (tables .exit) ≡ writeWords (state card (now (settings .entry)) (now (tables .entry))) start last 0 (take count (now (words .entry))) .state .tables) ⌝ }
+{
+    let mut k = card;
+    let mut i: usize = 0;
+    while i < count {
+        let a = start as usize + i;
+        if (last as usize) < a {
+            return Written {
+                card: k,
+                answer: Answer::Beyond(i),
+            };
+        }
+        let w = write_word(settings, tables, k, a as u16, word::get(words, i));
+        k = w.card;
+        let v = w.verdict;
+        match v {
+            Verdict::Accepted => {}
+            Verdict::Refused(why) => {
+                return Written {
+                    card: k,
+                    answer: Answer::Refused(why, i),
+                };
+            }
+        }
+        i = i + 1;
+    }
+    Written {
+        card: k,
+        answer: Answer::Done(count),
+    }
+}
+
+// The words read one after the other.
+fn read_words(
+    settings: &[u16],
+    card: Card,
+    start: u16,
+    last: u16,
+    words: &mut [u16],
+    count: usize,
+) -> Answer
+    requires { ⌜ count ≤ 16381 ⌝ }
+    ensures { λ r. ⌜ (r ≡ readWords (now (settings .entry)) card start last 0 count (now (words .entry)) .answer) × (now (words .exit) ≡ readWords (now (settings .entry)) card start last 0 count (now (words .entry)) .words) ⌝ }
+{
+    let mut i: usize = 0;
+    while i < count {
+        let a = start as usize + i;
+        if (last as usize) < a {
+            return Answer::Beyond(i);
+        }
+        word::put(words, i, read_word(settings, card, a as u16));
+        i = i + 1;
+    }
+    Answer::Done(count)
+}
+
+// One word: judged, and done if it is accepted.
+fn write_word(
+    settings: &mut [u16],
+    tables: &mut [u16],
+    card: Card,
+    address: u16,
+    value: u16,
+) -> Stepped
+    ensures { λ r. ⌜ (r .card ≡ writeWord (state card (now (settings .entry)) (now (tables .entry))) address value .state .card) × (r .verdict ≡ writeWord (state card (now (settings .entry)) (now (tables .entry))) address value .verdict) × (now (settings .exit) ≡ writeWord (state card (now (settings .entry)) (now (tables .entry))) address value .state .settings) × (now (tables .exit) ≡ writeWord (state card (now (settings .entry)) (now (tables .entry))) address value .state .tables) ⌝ }
+{
+    let register = map::register_at(address);
+    let verdict = judge(settings, card, register, value);
+    match verdict {
+        Verdict::Accepted => {
+            let k = perform(settings, tables, card, address, effect_of(register, value));
+            Stepped {
+                card: k,
+                verdict: Verdict::Accepted,
+            }
+        }
+        Verdict::Refused(why) => Stepped {
+            card: card,
+            verdict: Verdict::Refused(why),
+        },
+    }
+}
+
+// Whether a word may be written, in the paper's order.
+fn judge(settings: &[u16], card: Card, register: Register, value: u16) -> Verdict
+    ensures { λ r. ⌜ r ≡ judgeOf (now (settings .entry)) card register value ⌝ }
+{
+    if is_fixed(register) {
+        return Verdict::Refused(Why::Fixed);
+    }
+    if map::allows(register, value) {
+        if is_held(settings, register, value) {
+            return Verdict::Refused(Why::Held);
+        }
+        if is_running(card, register) {
+            return Verdict::Refused(Why::Running);
+        }
+        return Verdict::Accepted;
+    }
+    Verdict::Refused(Why::Value)
+}
+
+fn is_fixed(register: Register) -> bool
+    ensures { λ b. ⌜ b ≡ fixedAt register ⌝ }
+{
+    match register {
+        Register::Setting(_) => false,
+        Register::Fixed(_) => true,
+        Register::Output(_) => false,
+        Register::Status(_, _) => false,
+        Register::Overflow(_) => false,
+        Register::Slot(_) => false,
+        Register::Image(_) => false,
+        Register::Erase => false,
+        Register::Manual => false,
+        Register::ActiveLevel => false,
+        Register::ActiveEvent => false,
+        Register::Count(_) => false,
+        Register::Unlisted => false,
+    }
+}
+
+// The event belongs to another level.
+fn is_held(settings: &[u16], register: Register, value: u16) -> bool
+    ensures { λ b. ⌜ b ≡ heldAt (now (settings .entry)) register value ⌝ }
+{
+    match register {
+        Register::Setting(_) => false,
+        Register::Fixed(_) => false,
+        Register::Output(_) => false,
+        Register::Status(_, _) => false,
+        Register::Overflow(_) => false,
+        Register::Slot(level) => held_elsewhere(settings, level, value),
+        Register::Image(_) => false,
+        Register::Erase => false,
+        Register::Manual => false,
+        Register::ActiveLevel => false,
+        Register::ActiveEvent => false,
+        Register::Count(_) => false,
+        Register::Unlisted => false,
+    }
+}
+
+fn held_elsewhere(settings: &[u16], level: usize, value: u16) -> bool
+    ensures { λ b. ⌜ b ≡ heldAt (now (settings .entry)) (Register.Slot level) value ⌝ }
+{
+    if value == 0xFE {
+        return false;
+    }
+    match slots::held_elsewhere(settings, value, level) {
+        Holder::Level(_) => true,
+        Holder::Nobody => false,
+    }
+}
+
+// A ramp runs on the channel whose output this is.
+fn is_running(card: Card, register: Register) -> bool
+    ensures { λ b. ⌜ b ≡ runningAt card register ⌝ }
+{
+    match register {
+        Register::Setting(_) => false,
+        Register::Fixed(_) => false,
+        Register::Output(c) => channel::runs(card::channel_of(card, c)),
+        Register::Status(_, _) => false,
+        Register::Overflow(_) => false,
+        Register::Slot(_) => false,
+        Register::Image(_) => false,
+        Register::Erase => false,
+        Register::Manual => false,
+        Register::ActiveLevel => false,
+        Register::ActiveEvent => false,
+        Register::Count(_) => false,
+        Register::Unlisted => false,
+    }
+}
+
+// What an accepted word does at a register.
+fn effect_of(register: Register, value: u16) -> Effect
+    ensures { λ r. ⌜ r ≡ effectOf register value ⌝ }
+{
+    match register {
+        Register::Setting(_) => Effect::Keep(value),
+        Register::Fixed(_) => Effect::Nothing,
+        Register::Output(c) => Effect::Output(c, value),
+        Register::Status(_, _) => Effect::Nothing,
+        Register::Overflow(c) => Effect::ClearOverflow(c),
+        Register::Slot(_) => Effect::Keep(value),
+        Register::Image(_) => Effect::Nothing,
+        Register::Erase => {
+            if value == 1 {
+                Effect::Erase
+            } else {
+                Effect::Nothing
+            }
+        }
+        Register::Manual => Effect::Trigger(value),
+        Register::ActiveLevel => Effect::Nothing,
+        Register::ActiveEvent => Effect::Nothing,
+        Register::Count(level) => Effect::ClearCount(level),
+        Register::Unlisted => Effect::Nothing,
+    }
+}
+
+// The effect is carried out: the only place where a write changes the card.
+fn perform(
+    settings: &mut [u16],
+    tables: &mut [u16],
+    card: Card,
+    address: u16,
+    effect: Effect,
+) -> Card
+    ensures { λ r. ⌜ (r ≡ performOf (state card (now (settings .entry)) (now (tables .entry))) address effect .card) × (now (settings .exit) ≡ performOf (state card (now (settings .entry)) (now (tables .entry))) address effect .settings) × (now (tables .exit) ≡ performOf (state card (now (settings .entry)) (now (tables .entry))) address effect .tables) ⌝ }
+{
+    match effect {
+        Effect::Keep(v) => {
+            word::put(settings, address as usize, v);
+            card
+        }
+        Effect::Output(c, v) => card::with_channel(
+            card,
+            c,
+            output_to(card::channel_of(card, c), v),
+        ),
+        Effect::ClearOverflow(c) => card::with_channel(
+            card,
+            c,
+            overflow_cleared(card::channel_of(card, c)),
+        ),
+        Effect::ClearCount(level) => card::with_count(card, level, 0),
+        Effect::Erase => {
+            slots::erase(settings);
+            card
+        }
+        Effect::Trigger(level) => card::trigger(settings, tables, card, level, 0xFE),
+        Effect::Nothing => card,
+    }
+}
+
+fn output_to(ch: Channel, v: u16) -> Channel
+    ensures { λ r. ⌜ r ≡ outputTo ch v ⌝ }
+{
+    let s = ch.shown;
+    let place = s.place;
+    with_shown(
+        ch,
+        Shown {
+            output: v,
+            place: place,
+            overflow: s.overflow,
+        },
+    )
+}
+
+fn overflow_cleared(ch: Channel) -> Channel
+    ensures { λ r. ⌜ r ≡ overflowCleared ch ⌝ }
+{
+    let s = ch.shown;
+    let place = s.place;
+    with_shown(
+        ch,
+        Shown {
+            output: s.output,
+            place: place,
+            overflow: 0,
+        },
+    )
+}
+
+// The channel with other words shown.
+fn with_shown(ch: Channel, s: Shown) -> Channel
+    ensures { λ r. ⌜ r ≡ with ch (ch .phase) s ⌝ }
+{
+    let phase = ch.phase;
+    let loaded = ch.loaded;
+    Channel {
+        phase: phase,
+        level: ch.level,
+        loaded: loaded,
+        shown: s,
+    }
+}
+
+// The word that is read at an address.
+fn read_word(settings: &[u16], card: Card, address: u16) -> u16
+    ensures { λ r. ⌜ r ≡ readWord (now (settings .entry)) card address ⌝ }
+{
+    match map::register_at(address) {
+        Register::Setting(_) => word::get(settings, address as usize),
+        Register::Fixed(_) => word::get(settings, address as usize),
+        Register::Output(c) => output_of(card::channel_of(card, c)),
+        Register::Status(c, f) => status_of(card::channel_of(card, c), f),
+        Register::Overflow(c) => overflow_of(card::channel_of(card, c)),
+        Register::Slot(_) => word::get(settings, address as usize),
+        Register::Image(e) => slots::image(settings, e),
+        Register::Erase => 0,
+        Register::Manual => 0,
+        Register::ActiveLevel => card.level,
+        Register::ActiveEvent => card.event,
+        Register::Count(level) => card::count_of(card, level),
+        Register::Unlisted => 0,
+    }
+}
+
+fn output_of(ch: Channel) -> u16
+    ensures { λ r. ⌜ r ≡ ch .shown .output ⌝ }
+{
+    ch.shown.output
+}
+
+fn overflow_of(ch: Channel) -> u16
+    ensures { λ r. ⌜ r ≡ ch .shown .overflow ⌝ }
+{
+    ch.shown.overflow
+}
+
+// A channel's words that are only read.
+fn status_of(ch: Channel, field: Field) -> u16
+    ensures { λ r. ⌜ r ≡ statusOf ch field ⌝ }
+{
+    match field {
+        Field::Table => ch.loaded.table,
+        Field::Scale => ch.loaded.scale,
+        Field::Offset => ch.loaded.offset,
+        Field::Segment => ch.shown.place.segment,
+        Field::Left => ch.shown.place.left.0,
+    }
+}
