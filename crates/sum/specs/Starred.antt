@@ -1,7 +1,7 @@
 -- 'Checked examples': the starred cases of samples, one row each.
 use mathlib.Core.List.{List, [], _∷_}
 use Prim.Native.Nat.{ℕ, _-_}
-use Rattle.sum.specs.Ramp.{Point}
+use Rattle.sum.specs.Ramp.{Point, ramp, stepsBefore}
 use Rattle.sum.specs.declared.Sum.{Sum}
 use Rattle.sum.specs.declared.Sum.the-variants.{Word, Overflow}
 
@@ -26,8 +26,8 @@ w n = Word n
 abbrev neg : ℕ → ℕ
 neg n = 0x10000 - n
 
-abbrev pub starred : List Case
-starred =
+abbrev pub starredSamples : List Case
+starredSamples =
     case 0x0100 0 (pt 0 4 ∷ pt 400 2 ∷ pt 100 0 ∷ []) (w 0 ∷ w 100 ∷ w 200 ∷ w 300 ∷ w 400 ∷ w 250 ∷ w 100 ∷ []) 6
     ∷ case 0x0080 0 (pt 0 4 ∷ pt 400 2 ∷ pt 100 0 ∷ []) (w 0 ∷ w 50 ∷ w 100 ∷ w 150 ∷ w 200 ∷ w 125 ∷ w 50 ∷ []) 6
     ∷ case 0xFF00 10 (pt 0 4 ∷ pt 400 2 ∷ pt 100 0 ∷ []) (w 10 ∷ w (neg 90) ∷ w (neg 190) ∷ w (neg 290) ∷ w (neg 390) ∷ w (neg 240) ∷ w (neg 90) ∷ []) 6
@@ -39,3 +39,7 @@ starred =
     ∷ case 0x0200 (neg 1) (pt (neg 16384) 0 ∷ []) (Overflow ∷ []) 0
     ∷ case 0x0200 (neg 32767) (pt 32767 0 ∷ []) (w 32767 ∷ []) 0
     ∷ []
+
+-- a case with what its ramp gives
+abbrev pub samplesGiven : Case → Case
+samplesGiven c = case (c .scale) (c .offset) (c .points) (ramp (c .scale) (c .offset) (c .points)) (stepsBefore (c .points))
