@@ -19,9 +19,9 @@ use Rattle.channel.specs.Channel.{Side, side, word, load, start, countTo, tickA
 use Rattle.channel.specs.Ramp.{advance}
 use Rattle.channel.proofs.Counts.{at-once, later}
 use Rattle.card.specs.Card.{State}
 use Rattle.transfer.specs.Word.{isLevel, judgeOf, writeWord}
 use Rattle.transfer.specs.Transfer.{writeOf, writeWords}
-use Rattle.transfer.specs.Starred.{Delay, Comes, ticked, Holding, transfers, answered, Starred}
+use Rattle.starred.specs.Starred.{Delay, Comes, ticked, Holding, transfers, answered, Starred}
 
 -- ---- delays
 

@@ -63,7 +63,7 @@ pub record Holding (st : State) : Type 0 where
 
 -- ---- every starred case
 
-abbrev Each : (Delay → Type 0) → List Delay → Type 0
+abbrev pub Each : (Delay → Type 0) → List Delay → Type 0
 Each P [] = Unit
 Each P (d ∷ ds) = P d × Each P ds
 

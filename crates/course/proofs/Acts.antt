@@ -1,0 +1,166 @@
+-- What one act leaves as it was. A tick changes neither the level nor, but for a load, what is loaded; a tick at rest changes nothing;
+-- what is no tick leaves phase, level, loaded words and the channel's table. Assumes nothing.
+use mathlib.Core.Path.{_≡_, refl, ap, _∙_}
+use mathlib.Core.Bool.{Bool, true, false, cond}
+use mathlib.Core.List.{List, [], _∷_}
+use Prim.Native.Nat.{ℕ, zero, suc, _+_, _*_, _-_, _≤_, _<_}
+use native.Mathlib.Omega.{arith}
+use lib.Dec.{eqb}
+use lib.ListN.{length}
+use borrow.Author.Tests.{eqb-true, eq-eqb}
+use Rattle.map.specs.Addresses.{enableAt}
+use Rattle.channel.specs.declared.Phase.{Phase}
+use Rattle.channel.specs.declared.Phase.the-variants.{Rest, Counting, Running}
+use Rattle.channel.specs.declared.Ramp.{Ramp}
+use Rattle.channel.specs.declared.Shown.{Shown}
+use Rattle.channel.specs.declared.Channel.{Channel}
+use Rattle.channel.specs.Channel.{Side, side, word, with, firstOf, lead, runsOf, copied, load, start, countTo, tickAt, tickOf, triggered}
+use Rattle.course.specs.Points.{SameTable}
+use Rattle.course.specs.Course.{Act, Tick, Elsewhere, Output, Clear, elsewhere, written, act, run, ticks, before, heldOn}
+use Rattle.course.proofs.Copies.{choose, copied-length, copied-in, copied-same, tick-length, tick-out, trigger-length, trigger-out}
+
+-- ---- a tick
+
+module _ (s l : List ℕ) (c : ℕ) (ch : Channel) where
+  pub tick-rest : ch .phase ≡ Rest → tickOf s l c ch ≡ side ch l
+  unfolding tickAt
+  tick-rest e = rw e
+
+  abbrev SameLevel : Side → Type 0
+  SameLevel x = x .channel .level ≡ ch .level
+
+  start-level : start s l c ch .level ≡ ch .level
+  unfolding start
+  start-level = choose (λ (x : Channel). x .level ≡ ch .level) (eqb (word s (enableAt c)) 1) _ _ refl refl
+
+  load-level : load s l c ch (ch .level) .channel .level ≡ ch .level
+  unfolding load
+  load-level = refl
+
+  tick-level-in : (f : Phase) → tickAt f s l c ch .channel .level ≡ ch .level
+  unfolding tickAt countTo
+  tick-level-in Rest = refl
+  tick-level-in (Counting n older) = choose SameLevel (eqb (n .0 - 1) 0) _ _ start-level (choose SameLevel (eqb (n .0 - 1) lead) _ _ load-level refl)
+  tick-level-in (Running p t) = refl
+
+  pub tick-level : tickOf s l c ch .channel .level ≡ ch .level
+  tick-level = tick-level-in (ch .phase)
+
+  -- no load is reached
+  pub record Kept (x : Side) : Type 0 where
+    pub loaded : x .channel .loaded ≡ ch .loaded
+    pub tables : x .tables ≡ l
+
+  start-kept : Kept (side (start s l c ch) l)
+  unfolding start
+  start-kept = record { loaded = choose (λ (x : Channel). x .loaded ≡ ch .loaded) (eqb (word s (enableAt c)) 1) _ _ refl refl; tables = refl }
+
+  count-kept : (n : ℕ) (older : Ramp) → (n ≡ 11 → ⊥) → Kept (countTo (n - 1) older s l c ch)
+  unfolding countTo
+  count-kept n older h = go (eqb (n - 1) 0) (eqb (n - 1) lead) refl _ _ _
+    where
+      go : (a b : Bool) → eqb (n - 1) lead ≡ b → (x : Side) (p : Phase) (t : Shown) → Kept (cond a (side (start s l c ch) l) (cond b x (side (with ch p t) l)))
+      go true b e x p t = start-kept
+      go false true e x p t = absurd (h (omega (arith, eqb-true (n - 1) lead e)))
+      go false false e x p t = record { loaded = refl; tables = refl }
+
+  tick-kept-in : (f : Phase) → ((n : ℕ) (older : Ramp) → f ≡ Counting (record { 0 = n }) older → n ≡ 11 → ⊥) → Kept (tickAt f s l c ch)
+  unfolding tickAt
+  tick-kept-in Rest h = record { loaded = refl; tables = refl }
+  tick-kept-in (Counting n older) h = count-kept (n .0) older (h (n .0) older refl)
+  tick-kept-in (Running p t) h = record { loaded = refl; tables = refl }
+
+  -- unless the countdown stands at 11, a tick changes neither what is loaded nor the tables
+  pub tick-kept : ((n : ℕ) (older : Ramp) → ch .phase ≡ Counting (record { 0 = n }) older → n ≡ 11 → ⊥) → Kept (tickOf s l c ch)
+  tick-kept h = tick-kept-in (ch .phase) h
+
+-- ---- the tables changed elsewhere
+
+-- no word is two channels'
+apart : (b c i : ℕ) → (b ≡ c → ⊥) → i < 128 → firstOf b ≤ firstOf c + i → firstOf c + i < firstOf b + 128 → ⊥
+apart b c i o h f g = o (omega arith)
+
+pub elsewhere-length : (c : ℕ) (l l′ : List ℕ) → length (elsewhere c l l′) ≡ length l
+unfolding elsewhere
+elsewhere-length c l l′ = go (eqb (length l′) (length l)) refl
+  where
+    go : (b : Bool) → eqb (length l′) (length l) ≡ b → length (cond b (copied 128 l (firstOf c) l′ (firstOf c)) l) ≡ length l
+    go true e = copied-length 128 l (firstOf c) l′ (firstOf c) ∙ eqb-true (length l′) (length l) e
+    go false e = refl
+
+-- the channel's own words stay
+pub elsewhere-in : (c : ℕ) (l l′ : List ℕ) → 128 * c + 128 ≤ length l → SameTable (elsewhere c l l′) (firstOf c) l (firstOf c)
+unfolding elsewhere
+elsewhere-in c l l′ r i h = go (eqb (length l′) (length l)) refl
+  where
+    go : (b : Bool) → eqb (length l′) (length l) ≡ b → word (cond b (copied 128 l (firstOf c) l′ (firstOf c)) l) (firstOf c + i) ≡ word l (firstOf c + i)
+    go true e = copied-in 128 l (firstOf c) l′ (firstOf c) i h (omega (arith, eqb-true (length l′) (length l) e))
+    go false e = refl
+
+-- a list that has as many words, and the channel's own as they were, is reached
+pub elsewhere-is : (c : ℕ) (l l′ : List ℕ) → length l′ ≡ length l → SameTable l′ (firstOf c) l (firstOf c) → elsewhere c l l′ ≡ l′
+unfolding elsewhere
+elsewhere-is c l l′ e h = rw (eq-eqb (length l′) (length l) e) (copied-same 128 l (firstOf c) l′ (firstOf c) h)
+
+-- another channel's tick or trigger changes the tables elsewhere
+module _ (s l : List ℕ) (b c : ℕ) (ch : Channel) (other : b ≡ c → ⊥) where
+  pub tick-elsewhere : elsewhere c l (tickOf s l b ch .tables) ≡ tickOf s l b ch .tables
+  tick-elsewhere =
+      elsewhere-is c l (tickOf s l b ch .tables) (tick-length s l b ch)
+      (λ i h. tick-out s l b ch (firstOf c + i) (λ f g. apart b c i other h f g))
+
+  pub trigger-elsewhere : (level : ℕ) → elsewhere c l (triggered s l b ch level .tables) ≡ triggered s l b ch level .tables
+  trigger-elsewhere level =
+      elsewhere-is c l (triggered s l b ch level .tables) (trigger-length s l b ch level)
+      (λ i h. trigger-out s l b ch level (firstOf c + i) (λ f g. apart b c i other h f g))
+
+-- ---- any act
+
+pub act-length : (c : ℕ) (x : Side) (y : Act) → length (act c x y .tables) ≡ length (x .tables)
+act-length c x (Tick s) = tick-length s (x .tables) c (x .channel)
+act-length c x (Elsewhere l) = elsewhere-length c (x .tables) l
+act-length c x (Output v) = refl
+act-length c x Clear = refl
+
+pub run-length : (c : ℕ) (x : Side) (ys : List Act) → length (run c x ys .tables) ≡ length (x .tables)
+run-length c x [] = refl
+run-length c x (y ∷ ys) = run-length c (act c x y) ys ∙ act-length c x y
+
+-- ---- a word written to the output leaves all but the output, and is not taken while a ramp runs
+
+module _ (v : ℕ) (ch : Channel) where
+  pub written-phase : written v ch .phase ≡ ch .phase
+  unfolding written
+  written-phase = choose (λ (x : Channel). x .phase ≡ ch .phase) (runsOf ch) _ _ refl refl
+
+  pub written-level : written v ch .level ≡ ch .level
+  unfolding written
+  written-level = choose (λ (x : Channel). x .level ≡ ch .level) (runsOf ch) _ _ refl refl
+
+  pub written-loaded : written v ch .loaded ≡ ch .loaded
+  unfolding written
+  written-loaded = choose (λ (x : Channel). x .loaded ≡ ch .loaded) (runsOf ch) _ _ refl refl
+
+  pub not-written : runsOf ch ≡ true → written v ch ≡ ch
+  unfolding written
+  not-written e = rw e
+
+-- ---- the acts before a tick, and the settings held on it
+
+-- the acts before a tick that does not come are all of them
+pub before-all : (n : ℕ) (xs : List Act) → ticks xs ≤ n → before (suc n) xs ≡ xs
+before-all n [] h = refl
+before-all zero (Tick s ∷ xs) h = absurd (omega arith)
+before-all (suc n) (Tick s ∷ xs) h = ap (λ (ys : List Act). Tick s ∷ ys) (before-all n xs (omega arith))
+before-all n (Elsewhere l ∷ xs) h = ap (λ (ys : List Act). Elsewhere l ∷ ys) (before-all n xs h)
+before-all n (Output v ∷ xs) h = ap (λ (ys : List Act). Output v ∷ ys) (before-all n xs h)
+before-all n (Clear ∷ xs) h = ap (λ (ys : List Act). Clear ∷ ys) (before-all n xs h)
+
+-- and the settings are those of the tick that comes after them
+pub held-next : (s z : List ℕ) (n : ℕ) (xs : List Act) → ticks xs ≤ n → heldOn s z (suc n) xs ≡ z
+held-next s z n [] h = refl
+held-next s z zero (Tick u ∷ xs) h = absurd (omega arith)
+held-next s z (suc n) (Tick u ∷ xs) h = held-next s z n xs (omega arith)
+held-next s z n (Elsewhere l ∷ xs) h = held-next s z n xs h
+held-next s z n (Output v ∷ xs) h = held-next s z n xs h
+held-next s z n (Clear ∷ xs) h = held-next s z n xs h

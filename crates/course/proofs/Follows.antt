@@ -1,0 +1,131 @@
+-- Demand 3 holds of every channel, trigger and acts (`demand3`): the trigger sets the course, the acts keep it, and each field of the
+-- statement is read off its case. Assumes nothing.
+use mathlib.Core.Path.{_≡_, refl}
+use mathlib.Core.Bool.{Bool, true, false}
+use mathlib.Core.List.{List}
+use Prim.Native.Nat.{ℕ, suc, _+_, _*_, _-_, _≤_, _<_}
+use native.Mathlib.Omega.{arith}
+use native.Mathlib.Nat.{zero-add}
+use lib.Dec.{leb}
+use lib.ListN.{length}
+use borrow.Author.Tests.{leb-true, leb-false}
+use Rattle.map.specs.Addresses.{delayAt, enableAt}
+use Rattle.channel.specs.declared.Channel.{Channel}
+use Rattle.channel.specs.declared.Ramp.the-variants.{Still}
+use Rattle.channel.specs.declared.Phase.the-variants.{Rest, Counting, Running}
+use Rattle.channel.specs.Channel.{Side, side, word, rampOf, load, countdown, triggered}
+use Rattle.channel.proofs.Counts as counts
+use Rattle.course.specs.Course.{Act, Tick, act, run, ticks, heldOn}
+use Rattle.course.specs.Follows.{totalFor, placeFor, Follows, Demand3}
+use Rattle.course.proofs.Copies.{trigger-length}
+use Rattle.course.proofs.Acts.{run-length, held-next}
+use Rattle.course.proofs.Course.{Held, Course, waits, starts, runs, rests, off, Ahead, Ticked, loads, load-phase, ticked, course-run}
+
+-- a load sets the course, 10 ticks before the start
+load-starts : (c v : ℕ) (s : List ℕ) (a : ℕ) (l : List ℕ) (ch : Channel) → 128 * c + 128 ≤ length l → Course c v s a 10 0 (load s l c ch v)
+load-starts c v s a l ch m =
+    starts 10 (omega arith) (omega arith) (omega arith) (loads c v s a 10 (side ch l) m) (load-phase c v s a 10 (side ch l))
+
+module _ (s l : List ℕ) (c : ℕ) (ch : Channel) (v : ℕ) (room : 128 * c + 128 ≤ length l) (xs : List Act) (z : List ℕ) where
+  abbrev d : ℕ
+  d = countdown s c v
+
+  -- the settings that are loaded, and A00 at the start
+  abbrev w : List ℕ
+  w = heldOn s z (d - 10) xs
+
+  abbrev a : ℕ
+  a = word (heldOn s z d xs) (enableAt c)
+
+  abbrev now : Side
+  now = run c (triggered s l c ch v) xs
+
+  -- a trigger sets the course
+  pub course-trigger : (e : ℕ) → Course c v w e d 0 (triggered s l c ch v)
+  course-trigger e = go (leb (word s (delayAt c v)) 10) refl
+    where
+      go : (b : Bool) → leb (word s (delayAt c v)) 10 ≡ b → Course c v w e d 0 (triggered s l c ch v)
+      go true q =
+          let h : word s (delayAt c v) ≤ 10 = omega (arith, leb-true) in
+          let d10 : countdown s c v ≡ 10 = omega arith in
+          rw (counts.at-once s l c ch v h, d10) (load-starts c v s e l ch room)
+      go false q =
+          let h : 10 < word s (delayAt c v) = omega (arith, leb-false) in
+          rw (counts.later s l c ch v h) (waits (word s (delayAt c v)) (rampOf (ch .phase)) (omega arith) h refl refl)
+
+  pub ahead : Ahead c v w a d 0 s z xs
+  ahead =
+      record {
+        loads = λ n q. let e : d - 10 ≡ suc n = omega arith in rw e;
+        enabled = λ n q. let e : d ≡ suc n = omega arith in rw e;
+      }
+
+  pub course-now : Course c v w a d (ticks xs) now
+  course-now = rw zero-add at (course-run c v w a d 0 s z (triggered s l c ch v) xs (rw (trigger-length s l c ch v) room) ahead (course-trigger a))
+
+  pub tick-now : Ticked c v w a d (ticks xs) z now
+  tick-now =
+      ticked c v w a d (ticks xs) z now
+      (rw (run-length c (triggered s l c ch v) xs, trigger-length s l c ch v) room)
+      (λ q. let e : d - 10 ≡ suc (ticks xs) = omega arith in rw (e, held-next s z (ticks xs) xs (omega arith)))
+      (λ q. let e : d ≡ suc (ticks xs) = omega arith in rw (e, held-next s z (ticks xs) xs (omega arith)))
+      course-now
+
+  held-of : d ≤ ticks xs + 10 → (x : Side) → Course c v w a d (ticks xs) x → Held c v w a d x
+  held-of h x (waits n o q p e f) = absurd (omega arith)
+  held-of h x (starts n q p b e f) = e
+  held-of h x (runs k r y q p b g e f) = e
+  held-of h x (rests y g e f) = e
+  held-of h x (off y g e f) = e
+
+  count-of : d ≤ ticks xs + 10 → (n : ℕ) → 1 ≤ n → ticks xs + n ≡ d → (x : Side) → Course c v w a d (ticks xs) x
+      → x .channel .phase ≡ Counting (record { 0 = n }) Still
+  count-of h n g u x (waits m o q p e f) = absurd (omega arith)
+  count-of h n g u x (starts m q p b e f) = let nm : n ≡ m = omega arith in rw nm f
+  count-of h n g u x (runs k r y q p b i e f) = absurd (omega arith)
+  count-of h n g u x (rests y i e f) = absurd (omega arith)
+  count-of h n g u x (off y i e f) = absurd (omega arith)
+
+  run-of : a ≡ 1 → (k j : ℕ) → k < totalFor w c v → j < 10 → ticks xs ≡ d + 10 * k + j
+      → (x : Side) → Course c v w a d (ticks xs) x → x .channel .phase ≡ Running (placeFor w c v k) (record { 0 = 10 - j })
+  run-of y k j h g u x (waits n o q p e f) = absurd (omega arith)
+  run-of y k j h g u x (starts n q p b e f) = absurd (omega arith)
+  run-of y k j h g u x (runs i r t q p b m e f) =
+      let ki : k ≡ i = omega arith in
+      let jr : 10 - j ≡ r = omega arith in
+      rw (ki, jr) f
+  run-of y k j h g u x (rests t m e f) = absurd (omega arith)
+  run-of y k j h g u x (off t m e f) = absurd (t y)
+
+  rest-of : a ≡ 1 → d + 10 * totalFor w c v ≤ ticks xs → (x : Side) → Course c v w a d (ticks xs) x → x .channel .phase ≡ Rest
+  rest-of y h x (waits n o q p e f) = absurd (omega arith)
+  rest-of y h x (starts n q p b e f) = absurd (omega arith)
+  rest-of y h x (runs k r t q p b g e f) = absurd (omega arith)
+  rest-of y h x (rests t g e f) = f
+  rest-of y h x (off t g e f) = f
+
+  off-of : (a ≡ 1 → ⊥) → d ≤ ticks xs → (x : Side) → Course c v w a d (ticks xs) x → x .channel .phase ≡ Rest
+  off-of y h x (waits n o q p e f) = absurd (omega arith)
+  off-of y h x (starts n q p b e f) = absurd (omega arith)
+  off-of y h x (runs k r t q p b g e f) = absurd (y t)
+  off-of y h x (rests t g e f) = f
+  off-of y h x (off t g e f) = f
+
+  follows : Follows c v d w a (ticks xs) now (act c now (Tick z))
+  follows =
+      record {
+        loaded = λ h. held-of h now course-now .loaded;
+        table = λ h. held-of h now course-now .table;
+        aborted = tick-now .aborted;
+        sample = tick-now .sample;
+        silent = tick-now .silent;
+        counts = λ h n g u. count-of h n g u now course-now;
+        runs = λ y k j h g u. run-of y k j h g u now course-now;
+        rests = λ y h. rest-of y h now course-now;
+        off = λ y h. off-of y h now course-now;
+      }
+
+-- Demand 3 of one channel
+pub demand3 : Demand3
+unfolding Demand3
+demand3 s l c ch level room xs z = follows s l c ch level room xs z

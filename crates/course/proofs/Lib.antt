@@ -1,0 +1,10 @@
+pub mod Copies
+pub mod Acts
+pub mod Tables
+pub mod Walk
+pub mod Points
+pub mod Course
+pub mod Follows
+pub mod Outputs
+pub mod Ramps
+pub mod Appends

@@ -1,0 +1,5 @@
+pub mod Points
+pub mod Course
+pub mod Follows
+pub mod Outputs
+pub mod Ramps

@@ -1,0 +1,1 @@
+// Theorems alone: every starred case of the paper, over the definitions that the contracts cite.
