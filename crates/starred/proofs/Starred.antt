@@ -3,7 +3,8 @@
 use mathlib.Core.Path.{_≡_, refl, sym, ap, _∙_}
 use mathlib.Core.Bool.{Bool, true, false}
 use mathlib.Core.List.{List, [], _∷_, map}
-use Prim.Native.Nat.{ℕ, suc, _+_, _<_, _≤_}
+use Prim.Native.Nat.{ℕ, zero, suc, _+_, _-_, _<_, _≤_}
+use native.Mathlib.Nat.{zero-add, suc-add}
 use native.Mathlib.Omega.{arith}
 use lib.ListN.{getD, set}
 use lib.Seq.{getD-set-other}
@@ -15,7 +16,7 @@ use Rattle.slots.specs.declared.Holder.the-variants.{Level, Nobody}
 use Rattle.slots.specs.Slots.{slotOf, otherOf}
 use Rattle.slots.proofs.Holders.{nobody-if, held-some, SomeLevel}
 use Rattle.channel.specs.declared.Channel.{Channel}
-use Rattle.channel.specs.Channel.{Side, side, word, load, start, countTo, tickAt, triggered}
+use Rattle.channel.specs.Channel.{Side, side, word, load, start, countTo, tickAt, tickOf, triggered}
 use Rattle.channel.specs.Ramp.{advance}
 use Rattle.channel.proofs.Counts.{at-once, later}
 use Rattle.card.specs.Card.{State}
@@ -27,7 +28,8 @@ use Rattle.starred.specs.Starred.{Delay, Comes, ticked, Holding, transfe
 
 module _ (s l : List ℕ) (c : ℕ) (ch : Channel) (level : ℕ) where
   -- from a load at once
-  from-load : (d : ℕ) → word s (delayAt c level) ≡ d → d ≤ 10 → triggered s l c ch level ≡ load s l c ch level
+  from-load : (d : ℕ) → word s (delayAt c level) ≡ d → d ≤ 10 → ticked 0 s c (triggered s l c ch level) ≡ load s l c ch level
+  unfolding ticked
   from-load d e h = at-once s l c ch level (omega arith)
 
   -- from 11 the first tick loads
@@ -35,28 +37,32 @@ module _ (s l : List ℕ) (c : ℕ) (ch : Channel) (level : ℕ) where
   unfolding ticked tickAt countTo load
   first-tick e = rw (later s l c ch level (omega arith), e)
 
--- ten ticks after a load the channel starts
-abbrev started : List ℕ → ℕ → Side → Side
-started s c x = side (start s (x .tables) c (ticked 9 s c x .channel)) (x .tables)
+-- ticks add up
+ticked-add : (a b : ℕ) (s : List ℕ) (c : ℕ) (x : Side) → ticked (a + b) s c x ≡ ticked b s c (ticked a s c x)
+unfolding ticked
+ticked-add zero b s c x = ap (λ (n : ℕ). ticked n s c x) (zero-add b)
+ticked-add (suc a) b s c x = ap (λ (n : ℕ). ticked n s c x) (suc-add a b) ∙ ticked-add a b s c (tickOf s (x .tables) c (x .channel))
 
-ten-more : (s l : List ℕ) (c : ℕ) (ch : Channel) (level : ℕ) → ticked 10 s c (load s l c ch level) ≡ started s c (load s l c ch level)
+-- ten ticks after a load the channel starts
+abbrev started : List ℕ → ℕ → List ℕ → Side → Side
+started s c l x = side (start s l c (x .channel)) l
+
+ten-more : (s l : List ℕ) (c : ℕ) (ch : Channel) (level : ℕ) → ticked 10 s c (load s l c ch level) ≡ started s c (load s l c ch level .tables) (ticked 9 s c (load s l c ch level))
 unfolding ticked tickAt countTo advance load
 ten-more s l c ch level = refl
 
-soon : (d : ℕ) → d ≤ 10 → Comes (record { delay = d; loads = 0; starts = 10 })
-unfolding ticked
-soon d h = record {
-  load-on = λ s l c ch level e. from-load s l c ch level d e h;
-  start-on = λ s l c ch level e. let f = from-load s l c ch level d e h in
-      ap (ticked 10 s c) f ∙ ten-more s l c ch level ∙ ap (λ (x : Side). side (start s (load s l c ch level .tables) c (ticked 9 s c x .channel)) (load s l c ch level .tables)) (sym f);
-}
-
-eleven : Comes (record { delay = 11; loads = 1; starts = 11 })
-unfolding ticked
-eleven = record {
-  load-on = λ s l c ch level e. first-tick s l c ch level e;
-  start-on = λ s l c ch level e. let f = first-tick s l c ch level e in
-      ap (ticked 10 s c) f ∙ ten-more s l c ch level ∙ ap (λ (x : Side). side (start s (load s l c ch level .tables) c (ticked 9 s c x .channel)) (load s l c ch level .tables)) (sym f);
+-- a load on tick n leads to a start on tick n + 10
+comes : (d n : ℕ) → ((s l : List ℕ) (c : ℕ) (ch : Channel) (level : ℕ) → word s (delayAt c level) ≡ d → ticked n s c (triggered s l c ch level) ≡ load s l c ch level)
+    → Comes (record { delay = d; loads = n; starts = n + 10 })
+comes d n f = record {
+  load-on = f;
+  start-on = λ s l c ch level e.
+      let x = triggered s l c ch level in
+      let y = load s l c ch level in
+      let q = f s l c ch level e in
+      let m : n + 10 - 1 ≡ n + 9 = omega arith in
+      let nine : ticked (n + 10 - 1) s c x ≡ ticked 9 s c y = ap (λ (k : ℕ). ticked k s c x) m ∙ ticked-add n 9 s c x ∙ ap (ticked 9 s c) q in
+      ticked-add n 10 s c x ∙ ap (ticked 10 s c) q ∙ ten-more s l c ch level ∙ ap (started s c (y .tables)) (sym nine);
 }
 
 -- ---- transfers
@@ -88,7 +94,10 @@ kept st =
 pub starred : Starred
 starred = record {
   of-samples = as-starred;
-  of-delays = (soon 0 (omega arith), (soon 10 (omega arith), (eleven, tt)));
+  of-delays = (
+    comes 0 0 (λ s l c ch level e. from-load s l c ch level 0 e (omega arith)),
+    (comes 10 0 (λ s l c ch level e. from-load s l c ch level 10 e (omega arith)), (comes 11 1 first-tick, tt)),
+  );
   of-transfers = as-answered;
   untouched = kept;
 }
