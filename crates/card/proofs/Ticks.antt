@@ -6,7 +6,8 @@ use native.Mathlib.Nat.{zero-add, suc-add}
 use native.Mathlib.Omega.{arith}
 use Rattle.card.specs.declared.Card.{Card}
 use Rattle.card.specs.Card.{State, state}
-use Rattle.card.specs.Tick.{advanced, ticks}
+use Rattle.card.specs.Trigger.{acceptedOf}
+use Rattle.card.specs.Tick.{advanced, tickWith, ticks}
 
 -- TICKS (a + b) IS TICKS b AFTER TICKS a
 pub ticks-add : (a b : ℕ) (st : State) → ticks (a + b) st ≡ ticks b (ticks a st)
@@ -19,6 +20,11 @@ pub settings-kept : (n : ℕ) (st : State) → ticks n st .settings ≡ st .sett
 unfolding ticks advanced
 settings-kept zero st = refl
 settings-kept (suc n) st = settings-kept n (advanced st)
+
+-- a tick with the null event is a tick without one
+pub no-event : (st : State) → tickWith st 0xFE ≡ advanced st
+unfolding acceptedOf
+no-event st = refl
 
 -- a state whose parts are those of another over the same settings
 pub same-state : {k : Card} {s l : List ℕ} (st : State) → k ≡ st .card → l ≡ st .tables → s ≡ st .settings → state k s l ≡ st

@@ -12,6 +12,7 @@ ghost use Rattle.card.specs.Trigger.{counted, struck, triggerOf, accepte
 ghost use Rattle.card.specs.Tick.{moved, advanced, tickWith, ticks};
 ghost use Rattle.card.specs.Reset.{settingsReset, tablesReset, cardReset};
 
+// The level and the event are those shown in 0x4210 and 0x4211.
 pub struct Card {
     pub channels: [Channel; 4],
     pub counts: [u16; 32],

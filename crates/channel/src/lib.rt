@@ -41,6 +41,7 @@ pub struct Loaded {
     pub offset: u16,
 }
 
+// The level is the pending one: that of the last trigger.
 pub struct Channel {
     pub phase: Phase,
     pub level: u16,

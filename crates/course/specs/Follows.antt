@@ -40,7 +40,7 @@ pub record Follows (c level d : ℕ) (s : List ℕ) (a t : ℕ) (now later : Sid
   pub sample : a ≡ 1 → (k : ℕ) → k ≤ totalFor s c level → t + 1 ≡ d + 10 * k → later .channel .shown ≡ sampleFor s c level k (now .channel .shown)
   -- and none on any other tick after the load
   pub silent : d ≤ t + 10 → (a ≡ 1 → (k : ℕ) → k ≤ totalFor s c level → t + 1 ≡ d + 10 * k → ⊥) → later .channel .shown ≡ now .channel .shown
-  -- until tick d it counts, and no ramp runs
+  -- from tick d − 10 until tick d it counts, and no ramp runs
   pub counts : d ≤ t + 10 → (n : ℕ) → 1 ≤ n → t + n ≡ d → now .channel .phase ≡ Counting (record { 0 = n }) Still
   -- from tick d to tick d + 10 T the ramp runs
   pub runs : a ≡ 1 → (k j : ℕ) → k < totalFor s c level → j < 10 → t ≡ d + 10 * k + j → now .channel .phase ≡ Running (placeFor s c level k) (record { 0 = 10 - j })

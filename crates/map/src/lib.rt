@@ -22,7 +22,7 @@ pub enum Found {
     Nothing,
 }
 
-// A word that keeps what is written to it.
+// A setting other than a trigger slot: a word that keeps what is written to it.
 pub enum Setting {
     // V and the time step of a point of a ramp table.
     Value,

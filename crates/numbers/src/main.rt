@@ -1,4 +1,4 @@
-// The paper's numbers 0 to 8 once each and in their order, and two ramps with a retrigger, held to a stored output.
+// Every number of the paper, each where it is due, and two ramps with a retrigger, held to a stored output.
 use card::Card;
 use libc::STDOUT_FILENO;
 

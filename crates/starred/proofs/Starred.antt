@@ -2,12 +2,13 @@
 -- Assumes nothing.
 use mathlib.Core.Path.{_≡_, refl, sym, ap, _∙_}
 use mathlib.Core.Bool.{Bool, true, false}
-use mathlib.Core.List.{List, [], _∷_, map}
+use mathlib.Core.List.{List, [], _∷_, _++_, map}
 use Prim.Native.Nat.{ℕ, zero, suc, _+_, _-_, _<_, _≤_}
 use native.Mathlib.Nat.{zero-add, suc-add}
 use native.Mathlib.Omega.{arith}
 use lib.ListN.{getD, set}
 use lib.Seq.{getD-set-other}
+use Rattle.sum.specs.Starred as samples
 use Rattle.sum.proofs.Starred.{as-starred}
 use Rattle.map.specs.Map.{channelRows, cardRows, block, regions, scan}
 use Rattle.map.specs.Addresses.{delayAt}
@@ -22,7 +23,7 @@ use Rattle.channel.proofs.Counts.{at-once, later}
 use Rattle.card.specs.Card.{State}
 use Rattle.transfer.specs.Word.{isLevel, judgeOf, writeWord}
 use Rattle.transfer.specs.Transfer.{writeOf, writeWords}
-use Rattle.starred.specs.Starred.{Delay, Comes, ticked, Holding, transfers, answered, Starred}
+use Rattle.starred.specs.Starred.{Delay, Comes, ticked, Holding, Answers, Case, ramp, Each, others, starred}
 
 -- ---- delays
 
@@ -80,24 +81,41 @@ module _ (st : State) (h : Holding st) where
       let s = set (st .settings) 0x4008 0x11 in
       is-level (otherOf s 0x10 1) (held-some s 0x10 1 0 (omega arith) (getD-set-other (st .settings) 0x4008 0x4000 0x11 0 (λ e. absurd (omega arith)) ∙ h .ten) (λ e. absurd (omega arith)))
 
-  as-answered : map (answered st) transfers ≡ transfers
+  third : Answers 0x4008 (0x11 ∷ 0x10 ∷ 0x12 ∷ []) 7 1 0x4009 st
   unfolding writeOf writeWords writeWord judgeOf regions block channelRows cardRows scan
-  as-answered = rw (free, taken)
+  third = record {
+    number-is = rw (free, taken);
+    processed-is = rw (free, taken);
+    stays = rw (free, taken) (getD-set-other (st .settings) 0x4008 0x4009 0x11 0 (λ e. absurd (omega arith)));
+  }
 
-kept : (st : State) → getD (writeOf st 0x07FE 4 (1 ∷ 0 ∷ 1 ∷ 1 ∷ []) .state .settings) 0x0800 0 ≡ getD (st .settings) 0x0800 0
+first : (st : State) → Answers 0x07FE (1 ∷ 0 ∷ 1 ∷ 1 ∷ []) 4 2 0x0800 st
 unfolding writeOf writeWords writeWord judgeOf regions block channelRows cardRows scan
-kept st =
-    let s = st .settings in
-    getD-set-other (set s 0x07FE 1) 0x07FF 0x0800 0 0 (λ e. absurd (omega arith)) ∙ getD-set-other s 0x07FE 0x0800 1 0 (λ e. absurd (omega arith))
+first st = let s = st .settings in record {
+  number-is = refl;
+  processed-is = refl;
+  stays = getD-set-other (set s 0x07FE 1) 0x07FF 0x0800 0 0 (λ e. absurd (omega arith)) ∙ getD-set-other s 0x07FE 0x0800 1 0 (λ e. absurd (omega arith));
+}
+
+second : (v : ℕ) (st : State) → Answers 0x007F (v ∷ []) 5 0 0x007F st
+unfolding writeOf writeWords writeWord judgeOf regions block channelRows cardRows scan
+second v st = record { number-is = refl; processed-is = refl; stays = refl }
+
+-- ---- the table
+
+-- the samples' part, row by row
+each-sample : (cs : List samples.Case) (rest : List Case) → map samples.samplesGiven cs ≡ cs → Each rest → Each (map ramp cs ++ rest)
+each-sample [] rest e h = h
+each-sample (c ∷ cs) rest e h = (cc-head e, each-sample cs rest (cc-tail e) h)
+  where
+    cc-head : {x y : samples.Case} {xs ys : List samples.Case} → x ∷ xs ≡ y ∷ ys → x ≡ y
+    cc-head e = cc
+
+    cc-tail : {x y : samples.Case} {xs ys : List samples.Case} → x ∷ xs ≡ y ∷ ys → xs ≡ ys
+    cc-tail e = cc
 
 -- EVERY STARRED CASE
-pub starred : Starred
-starred = record {
-  of-samples = as-starred;
-  of-delays = (
-    comes 0 0 (λ s l c ch level e. from-load s l c ch level 0 e (omega arith)),
-    (comes 10 0 (λ s l c ch level e. from-load s l c ch level 10 e (omega arith)), (comes 11 1 first-tick, tt)),
-  );
-  of-transfers = as-answered;
-  untouched = kept;
-}
+pub as-stated : (v : ℕ) → Each (starred v)
+as-stated v =
+    each-sample samples.starredSamples (others v) as-starred
+    (comes 0 0 (λ s l c ch level e. from-load s l c ch level 0 e (omega arith)), (comes 10 0 (λ s l c ch level e. from-load s l c ch level 10 e (omega arith)), (comes 11 1 first-tick, ((λ st g. first st), ((λ st g. second v st), (third, tt))))))

@@ -1,28 +1,22 @@
--- 'Checked examples': the starred cases of delays and transfers, a table each, beside that of samples in `sum`.
+-- 'Checked examples': every starred case in one table. The samples are those of `sum`.
 use mathlib.Core.Path.{_≡_}
-use mathlib.Core.List.{List, [], _∷_, map}
+use mathlib.Core.List.{List, [], _∷_, _++_, map}
 use Prim.Native.Nat.{ℕ, zero, suc, _-_, _<_}
 use lib.ListN.{length, getD}
-use Rattle.sum.specs.Starred.{samplesGiven, starredSamples}
+use Rattle.sum.specs.Starred as samples
 use Rattle.slots.specs.Slots.{slotOf}
 use Rattle.map.specs.Addresses.{delayAt}
 use Rattle.channel.specs.declared.Channel.{Channel}
 use Rattle.channel.specs.Channel.{Side, side, word, load, start, tickOf, triggered}
 use Rattle.card.specs.Card.{State}
-use Rattle.transfer.specs.Transfer.{Out, numberOf, processedOf, writeOf}
+use Rattle.transfer.specs.Transfer.{numberOf, processedOf, writeOf}
 
--- ---- delays: the ticks after the trigger on which the channel loads and starts
+-- ---- a delay: the ticks after the trigger on which the channel loads and starts
 
 pub record Delay : Type 0 where
   pub delay : ℕ
   pub loads : ℕ
   pub starts : ℕ
-
-abbrev delayed : ℕ → ℕ → ℕ → Delay
-delayed d l s = record { delay = d; loads = l; starts = s }
-
-abbrev pub delays : List Delay
-delays = delayed 0 0 10 ∷ delayed 10 0 10 ∷ delayed 11 1 11 ∷ []
 
 -- n ticks of one channel under settings that stay
 unfoldable pub ticked : ℕ → List ℕ → ℕ → Side → Side
@@ -36,40 +30,55 @@ pub record Comes (d : Delay) : Type 0 where
   pub start-on : (s l : List ℕ) (c : ℕ) (ch : Channel) (level : ℕ) → word s (delayAt c level) ≡ d .delay
       → ticked (d .starts) s c (triggered s l c ch level) ≡ side (start s (load s l c ch level .tables) c (ticked (d .starts - 1) s c (triggered s l c ch level) .channel)) (load s l c ch level .tables)
 
--- ---- transfers: words written from a start on, and the number and words processed
+-- ---- a transfer: words written from a start on, to a state of which something is given
 
-pub record Transfer : Type 0 where
-  pub start : ℕ
-  pub words : List ℕ
-  pub number : ℕ
-  pub processed : ℕ
-
-abbrev transfer : ℕ → List ℕ → ℕ → ℕ → Transfer
-transfer a ws n p = record { start = a; words = ws; number = n; processed = p }
-
-abbrev pub transfers : List Transfer
-transfers = transfer 0x07FE (1 ∷ 0 ∷ 1 ∷ 1 ∷ []) 4 2 ∷ transfer 0x007F (1 ∷ []) 5 0 ∷ transfer 0x4008 (0x11 ∷ 0x10 ∷ 0x12 ∷ []) 7 1 ∷ []
-
--- what a state answers to such a write
-abbrev pub answered : State → Transfer → Transfer
-answered st t =
-    let o : Out = writeOf st (t .start) (length (t .words)) (t .words) in
-    transfer (t .start) (t .words) (numberOf (o .answer)) (processedOf (o .answer))
-
--- '0x4000 holds 0x10', and 0x11 is not held
+-- '0x4000 holds 0x10', and no slot holds 0x11
 pub record Holding (st : State) : Type 0 where
   pub ten : slotOf (st .settings) 0 ≡ 0x10
   pub no-eleven : (n : ℕ) → n < 256 → slotOf (st .settings) n ≡ 0x11 → ⊥
 
--- ---- every starred case
+pub data Given : Type 0 where
+  nothing : Given
+  held : Given
 
-abbrev pub Each : (Delay → Type 0) → List Delay → Type 0
-Each P [] = Unit
-Each P (d ∷ ds) = P d × Each P ds
+abbrev pub Of : Given → State → Type 0
+Of nothing st = Unit
+Of held st = Holding st
 
-pub record Starred : Type 0 where
-  pub of-samples : map samplesGiven starredSamples ≡ starredSamples
-  pub of-delays : Each Comes delays
-  pub of-transfers : (st : State) → Holding st → map (answered st) transfers ≡ transfers
-  -- '0x0800 untouched'
-  pub untouched : (st : State) → getD (writeOf st 0x07FE 4 (1 ∷ 0 ∷ 1 ∷ 1 ∷ []) .state .settings) 0x0800 0 ≡ getD (st .settings) 0x0800 0
+-- the number and the words processed, and an address that is left as it was
+pub record Answers (start : ℕ) (words : List ℕ) (number processed untouched : ℕ) (st : State) : Type 0 where
+  pub number-is : numberOf (writeOf st start (length words) words .answer) ≡ number
+  pub processed-is : processedOf (writeOf st start (length words) words .answer) ≡ processed
+  pub stays : getD (writeOf st start (length words) words .state .settings) untouched 0 ≡ getD (st .settings) untouched 0
+
+-- ---- the table
+
+pub data Case : Type 0 where
+  ramp : samples.Case → Case
+  delay : ℕ → ℕ → ℕ → Case
+  write : Given → ℕ → List ℕ → ℕ → ℕ → ℕ → Case
+
+-- v is the word written at 0x007F, whatever it is
+abbrev pub others : ℕ → List Case
+others v =
+    delay 0 0 10
+    ∷ delay 10 0 10
+    ∷ delay 11 1 11
+    ∷ write nothing 0x07FE (1 ∷ 0 ∷ 1 ∷ 1 ∷ []) 4 2 0x0800
+    ∷ write nothing 0x007F (v ∷ []) 5 0 0x007F
+    ∷ write held 0x4008 (0x11 ∷ 0x10 ∷ 0x12 ∷ []) 7 1 0x4009
+    ∷ []
+
+abbrev pub starred : ℕ → List Case
+starred v = map ramp samples.starredSamples ++ others v
+
+-- ---- what a case says
+
+abbrev pub Holds : Case → Type 0
+Holds (ramp c) = samples.samplesGiven c ≡ c
+Holds (delay d l s) = Comes (record { delay = d; loads = l; starts = s })
+Holds (write g a ws n p u) = (st : State) → Of g st → Answers a ws n p u st
+
+abbrev pub Each : List Case → Type 0
+Each [] = Unit
+Each (c ∷ cs) = Holds c × Each cs

@@ -12,9 +12,9 @@ pub record Point : Type 0 where
   pub step : ℕ
 
 -- m samples left down to 1, and then what follows
-abbrev pub countdown : (ℕ → Sum) → ℕ → List Sum → List Sum
-countdown at zero rest = rest
-countdown at (suc m) rest = at (suc m) ∷ countdown at m rest
+abbrev pub downTo : (ℕ → Sum) → ℕ → List Sum → List Sum
+downTo at zero rest = rest
+downTo at (suc m) rest = at (suc m) ∷ downTo at m rest
 
 -- at the end point: f is that V, the sample is given, and the ramp rests
 abbrev pub ending : ℕ → ℕ → Point → List Sum
@@ -26,7 +26,7 @@ rampFrom scale offset p [] = ending scale offset p
 rampFrom scale offset p (q ∷ ps) =
     cond (eqb (p .step) 0)
     (ending scale offset p)
-    (countdown (λ m. sampleOf scale (p .value) (q .value) (p .step) m offset) (p .step) (rampFrom scale offset q ps))
+    (downTo (λ m. sampleOf scale (p .value) (q .value) (p .step) m offset) (p .step) (rampFrom scale offset q ps))
 
 abbrev pub ramp : ℕ → ℕ → List Point → List Sum
 ramp scale offset [] = []

@@ -80,6 +80,7 @@ runningAt k R.ActiveEvent = false
 runningAt k (R.Count l) = false
 runningAt k R.Unlisted = false
 
+-- what the register allows is what the map accepts at its address (`accepted-is` of `map`)
 unfoldable pub judgeOf : List ℕ → Card → Register → ℕ → Verdict
 judgeOf s k r v =
     cond (fixedAt r) (Refused Fixed)
