@@ -1,0 +1,4 @@
+pub mod Digits
+pub mod Frames
+pub mod Flows
+pub mod Session

@@ -1,0 +1,27 @@
+-- `line::put4` meets its contract. Assumes nothing.
+use borrow.Author.Needs.{needs}
+use Prim.Native.Nat.{_/_}
+use native.Mathlib.Omega.{arith}
+use Rattle.line.specs.Answer.{hex2, hex4}
+use Rattle.line.proofs.Digits.{then-at, length-hex2}
+use Rattle.line.proofs.put4.Statement.{statement}
+use Rattle.line.proofs.put4.Tie as tie
+
+put2-requires : tie.Need-put2-requires
+put2-requires c κs = search needs
+
+add-put2 : tie.Need-add-put2
+add-put2 c = search needs
+
+put2-requires-2 : tie.Need-put2-requires-2
+put2-requires-2 c κs = search needs
+
+same-length : tie.Need-same-length
+same-length c = search needs
+
+returns : tie.Need-returns
+unfolding hex4
+returns c = let a = c .before .before .before .before .before .before .before .before .before .args in then-at (a .out .now) (a .at) (hex2 (a .x / 256)) (hex2 (a .x)) (c .before .before .before .before .before .before .put2 .ensures) (c .before .before .put22 .ensures) (rw length-hex2 (omega arith))
+
+pub put4-spec : {M : Type 1} → statement M
+put4-spec = tie.close (tie.spec put2-requires add-put2 put2-requires-2 same-length returns)

@@ -1,0 +1,88 @@
+-- 'Answer line': the answer to a line, and the state after it.
+use mathlib.Core.Path.{_≡_}
+use mathlib.Core.Bool.{cond}
+use mathlib.Core.List.{List, [], _∷_, _++_}
+use Prim.Native.Nat.{ℕ, _+_, _/_, _%_, _≤_}
+use lib.Dec.{ltb}
+use lib.ListN.{length, take, replicate}
+use lib.Seq.{sets}
+use Rattle.card.specs.declared.Card.{Card}
+use Rattle.card.specs.Card.{State, state, channelOf}
+use Rattle.card.specs.Tick.{tickWith, ticks}
+use Rattle.transfer.specs.Transfer.{Out, Filled, numberOf, processedOf, writeOf, readOf}
+use Rattle.line.specs.declared.Frame.{Frame}
+use Rattle.line.specs.declared.Frame.the-variants.{Write, Read, Ticks, Event, Bad}
+use Rattle.line.specs.declared.Answered.{Answered}
+use Rattle.line.specs.Frame.{wordsOf, frameOf}
+
+-- ---- digits written: one, two, four, and those of words one after the other
+
+abbrev pub digitOf : ℕ → ℕ
+digitOf n = cond (ltb n 10) (48 + n) (55 + n)
+
+unfoldable pub hex2 : ℕ → List ℕ
+hex2 x = digitOf (x / 16 % 16) ∷ digitOf (x % 16) ∷ []
+
+unfoldable pub hex4 : ℕ → List ℕ
+hex4 x = hex2 (x / 256) ++ hex2 x
+
+unfoldable pub hexAll : List ℕ → List ℕ
+hexAll [] = []
+hexAll (w ∷ ws) = hex4 w ++ hexAll ws
+
+-- ---- the answer lines
+
+-- the name, 'number (2 digits), processed'
+unfoldable pub headOf : ℕ → ℕ → ℕ → List ℕ
+headOf name number processed = hex2 name ++ (hex2 number ++ hex4 processed)
+
+-- 'words read': the first processed words of the slice
+abbrev pub readText : Filled → List ℕ
+readText f = headOf 0x82 (numberOf (f .answer)) (processedOf (f .answer)) ++ hexAll (take (processedOf (f .answer)) (f .words))
+
+-- 'four outputs', of channels 0 to 3
+abbrev pub outputsOf : Card → List ℕ
+outputsOf k = channelOf k 0 .shown .output ∷ channelOf k 1 .shown .output ∷ channelOf k 2 .shown .output ∷ channelOf k 3 .shown .output ∷ []
+
+unfoldable pub outputsText : ℕ → Card → List ℕ
+outputsText name k = hex2 name ++ hexAll (outputsOf k)
+
+-- an answer's text, and the state after it
+pub record Step : Type 0 where
+  pub state : State
+  pub text : List ℕ
+
+abbrev pub step : State → List ℕ → Step
+step st x = record { state = st; text = x }
+
+-- '81, number, processed'
+abbrev pub wrote : Out → Step
+wrote o = step (o .state) (headOf 0x81 (numberOf (o .answer)) (processedOf (o .answer)))
+
+-- '83, four outputs' and '84, four outputs'
+abbrev pub ticked : ℕ → State → Step
+ticked name st = step st (outputsText name (st .card))
+
+-- 'write', 'read', 'N ticks, no event', 'one tick'; any other line 'answers FF', and nothing changes
+abbrev pub onFrame : State → List ℕ → Frame → Step
+onFrame st s (Write start count) = wrote (writeOf st start count (wordsOf count s))
+onFrame st s (Read start count) = step st (readText (readOf (st .settings) (st .card) start count (replicate 64 0)))
+onFrame st s (Ticks n) = ticked 0x83 (ticks n st)
+onFrame st s (Event e) = ticked 0x84 (tickWith st e)
+onFrame st s Bad = step st (hex2 0xFF)
+
+unfoldable pub stepOf : State → List ℕ → Step
+stepOf st s = onFrame st s (frameOf s)
+
+-- ---- what the functions that answer show
+
+-- the text x stands in the buffer from `at` on, and where it ends
+pub record Puts (x : List ℕ) (at : ℕ) (before after : List ℕ) (to : ℕ) : Type 0 where
+  pub buffer : after ≡ sets before at x
+  pub ends : to ≡ at + length x
+  pub short : to ≤ at + 264
+
+-- the same, and the state after it
+pub record Answers (d : Step) (at : ℕ) (before after settings tables : List ℕ) (r : Answered) : Type 0 where
+  pub same : state (r .card) settings tables ≡ d .state
+  pub puts : Puts (d .text) at before after (r .end)

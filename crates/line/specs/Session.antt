@@ -1,0 +1,142 @@
+-- The whole session; the same byte by byte; and chunk by chunk, as the program takes its input.
+use mathlib.Core.Path.{_≡_}
+use mathlib.Core.Bool.{cond}
+use mathlib.Core.List.{List, [], _∷_, _++_}
+use Prim.Native.Nat.{ℕ, zero, suc, _+_, _≤_, min}
+use lib.Dec.{eqb, ltb, leb}
+use lib.ListN.{length, take, drop, set}
+use lib.Seq.{sets}
+use Rattle.card.specs.declared.Card.{Card}
+use Rattle.card.specs.Card.{State, state}
+use Rattle.card.specs.Reset.{resetOf}
+use Rattle.line.specs.declared.Stream.{Stream}
+use Rattle.line.specs.Answer.{Step, stepOf}
+
+-- ---- the session
+
+-- 'lines end with LF; the last may lack it': the lines of s, after the bytes p of a line that has begun
+unfoldable pub linesFrom : List ℕ → List ℕ → List (List ℕ)
+linesFrom [] [] = []
+linesFrom (a ∷ p) [] = (a ∷ p) ∷ []
+linesFrom p (b ∷ s) = cond (eqb b 10) (p ∷ linesFrom [] s) (linesFrom (p ++ b ∷ []) s)
+
+abbrev pub linesOf : List ℕ → List (List ℕ)
+linesOf input = linesFrom [] input
+
+-- the lines in order, on one card: 'each answer ends with LF'
+unfoldable pub answersOf : State → List (List ℕ) → List ℕ
+answersOf st [] = []
+answersOf st (l ∷ ls) = (stepOf st l .text ++ 10 ∷ []) ++ answersOf (stepOf st l .state) ls
+
+-- 'from standard input on a reset card', whatever the lent words were before the reset
+unfoldable pub session : List ℕ → List ℕ → List ℕ → List ℕ
+session settings tables input = answersOf (resetOf settings tables) (linesOf input)
+
+-- ---- byte by byte
+
+-- the card's state, the open line's buffer and how many bytes of it are held, and the answers given
+pub record Flow : Type 0 where
+  pub state : State
+  pub line : List ℕ
+  pub held : ℕ
+  pub text : List ℕ
+
+abbrev pub flow : State → List ℕ → ℕ → List ℕ → Flow
+flow st l h x = record { state = st; line = l; held = h; text = x }
+
+-- the same with no answers given yet, and with the answers x before its own
+abbrev pub bare : Flow → Flow
+bare t = flow (t .state) (t .line) (t .held) []
+
+abbrev pub after : List ℕ → Flow → Flow
+after x t = flow (t .state) (t .line) (t .held) (x ++ t .text)
+
+-- 263 bytes decide a line, being one more than the longest frame has
+abbrev pub most : ℕ
+most = 263
+
+-- the most bytes that an answer has, LF included: 82, number, processed, 64 words
+abbrev pub longest : ℕ
+longest = 265
+
+-- what a call finds open: more bytes held than 263 count as 263
+abbrev pub opened : Card → List ℕ → List ℕ → List ℕ → ℕ → Flow
+opened k s l line held = flow (state k s l) line (min held most) []
+
+-- a line ends: it is answered
+unfoldable pub ended : Flow → Flow
+ended t =
+    flow (stepOf (t .state) (take (t .held) (t .line)) .state)
+    (t .line)
+    0
+    (t .text ++ (stepOf (t .state) (take (t .held) (t .line)) .text ++ 10 ∷ []))
+
+-- a line goes on: the byte is kept, up to 263 of them
+unfoldable pub kept : Flow → ℕ → Flow
+kept t b = cond (ltb (t .held) most) (flow (t .state) (set (t .line) (t .held) b) (t .held + 1) (t .text)) t
+
+unfoldable pub byteOf : Flow → ℕ → Flow
+byteOf t b = cond (eqb b 10) (ended t) (kept t b)
+
+unfoldable pub feedOf : Flow → List ℕ → Flow
+feedOf t [] = t
+feedOf t (b ∷ s) = feedOf (byteOf t b) s
+
+-- how many bytes are taken: one after the other as long as there is room for one more answer
+unfoldable pub takenOf : ℕ → Flow → List ℕ → ℕ
+takenOf room t [] = 0
+takenOf room t (b ∷ s) = cond (leb (length (t .text) + longest) room) (suc (takenOf room (byteOf t b) s)) 0
+
+-- the input ends: a line that has begun is answered, if there is room for it
+unfoldable pub finishOf : ℕ → Flow → Flow
+finishOf room t = cond (eqb (t .held) 0) t (cond (leb longest room) (ended t) t)
+
+-- ---- what the functions that take bytes show
+
+-- the flow after it, with its answers in the buffer from `at` on
+pub record Feeds (d : Flow) (at : ℕ) (before after settings tables line : List ℕ) (card : Card) (held end : ℕ) : Type 0 where
+  pub same : state card settings tables ≡ d .state
+  pub lined : line ≡ d .line
+  pub holds : held ≡ d .held
+  pub atMost : held ≤ most
+  pub buffer : after ≡ sets before at (d .text)
+  pub ends : end ≡ at + length (d .text)
+
+-- a chunk: what is taken of it is fed, and its answers stand at the front of the buffer
+pub record Fed (t : Flow) (chunk before after settings tables line : List ℕ) (r : Stream) : Type 0 where
+  pub took : r .taken ≡ takenOf (length before) t chunk
+  pub feeds : Feeds (feedOf t (take (r .taken) chunk)) 0 before after settings tables line (r .card) (r .held) (r .end)
+  pub fits : r .end ≤ length before
+
+-- the end of the input
+pub record Finished (t : Flow) (before after settings tables line : List ℕ) (r : Stream) : Type 0 where
+  pub took : r .taken ≡ 0
+  pub feeds : Feeds (finishOf (length before) t) 0 before after settings tables line (r .card) (r .held) (r .end)
+  pub fits : r .end ≤ length before
+
+-- keeping a byte: the buffer before and after, and how many bytes it holds
+pub record Keeps (before : List ℕ) (held b : ℕ) (after : List ℕ) (r : ℕ) : Type 0 where
+  pub lined : after ≡ cond (ltb held most) (set before held b) before
+  pub holds : r ≡ cond (ltb held most) (held + 1) held
+  pub atMost : r ≤ most
+
+-- ---- chunk by chunk, for any way in which the input comes; the text is all that has been written
+
+-- a chunk fed again and again, at most n times: each call writes its answers, and what it did not take is fed again
+unfoldable pub serveOf : ℕ → ℕ → Flow → List ℕ → Flow
+serveOf zero room t s = t
+serveOf (suc n) room t s = serveOf n room (after (t .text) (feedOf (bare t) (take (takenOf room (bare t) s) s))) (drop (takenOf room (bare t) s) s)
+
+-- each chunk as many times as it has bytes, then the end of the input
+unfoldable pub writtenOf : ℕ → Flow → List (List ℕ) → List ℕ
+writtenOf room t [] = t .text ++ finishOf room (bare t) .text
+writtenOf room t (c ∷ cs) = writtenOf room (serveOf (length c) room t c) cs
+
+unfoldable pub joined : List (List ℕ) → List ℕ
+joined [] = []
+joined (c ∷ cs) = c ++ joined cs
+
+-- how many lines a text has whose lines all end with LF
+unfoldable pub endsIn : List ℕ → ℕ
+endsIn [] = 0
+endsIn (b ∷ s) = cond (eqb b 10) (suc (endsIn s)) (endsIn s)

@@ -1,0 +1,552 @@
+// Lines: frames of hexadecimal, their answers, and the stream of lines over one card.
+use card::Card;
+ghost use mathlib.Core.Path.{_≡_};
+ghost use mathlib.Core.List.{[]};
+ghost use Prim.Native.Nat.{_+_, _*_, _^_, _≤_, _<_, min};
+ghost use lib.ListN.{set, take, length, getD, replicate};
+ghost use lib.Seq.{sets};
+ghost use Rattle.card.specs.Card.{state, channelOf};
+ghost use Rattle.card.specs.Reset.{settingsReset, tablesReset, cardReset};
+ghost use Rattle.transfer.specs.Transfer.{readOf};
+ghost use Rattle.line.specs.Frame.{isDigit, valueOf, allDigits, byteAt, wordAt, wordsOf, frameOf, writeFrame, readFrame, ticksFrame, eventFrame};
+ghost use Rattle.line.specs.Answer.{digitOf, hex2, hex4, hexAll, headOf, readText, outputsOf, outputsText, onFrame, stepOf, Puts, Answers};
+ghost use Rattle.line.specs.Session.{opened, ended, flow, Feeds, Fed, Finished, Keeps};
+
+// What a line says.
+pub enum Frame {
+    Write { start: u16, count: usize },
+    Read { start: u16, count: usize },
+    // So many ticks.
+    Ticks(u16),
+    Event(u16),
+    Bad,
+}
+
+// The card after an answer, and where the answer ends in the buffer.
+pub struct Answered {
+    pub card: Card,
+    pub end: usize,
+}
+
+// After some bytes: the card, how many bytes of the open line are held, where the answers end, and how many bytes were taken.
+pub struct Stream {
+    pub card: Card,
+    pub held: usize,
+    pub end: usize,
+    pub taken: usize,
+}
+
+// The reset card on which a session starts.
+pub fn start(settings: &mut [u16], tables: &mut [u16]) -> Card
+    ensures { λ r. ⌜ (r ≡ cardReset) × (now (settings .exit) ≡ settingsReset (now (settings .entry))) × (now (tables .exit) ≡ tablesReset (now (tables .entry))) ⌝ }
+{
+    card::reset(settings, tables)
+}
+
+// Bytes of a chunk, one after the other, as long as `out` has room for one more answer.
+pub fn feed(
+    settings: &mut [u16],
+    tables: &mut [u16],
+    line: &mut [u8],
+    out: &mut [u8],
+    card: Card,
+    held: usize,
+    chunk: &[u8],
+) -> Stream
+    ensures { λ r. ⌜ Fed (opened card (now (settings .entry)) (now (tables .entry)) (now (line .entry)) held) (now (chunk .entry)) (now (out .entry)) (now (out .exit)) (now (settings .exit)) (now (tables .exit)) (now (line .exit)) r ⌝ }
+{
+    let mut k = card;
+    let mut h = least(held, 263);
+    let mut end: usize = 0;
+    let mut i: usize = 0;
+    while i < chunk.len() {
+        if out.len() < end + 265 {
+            return Stream {
+                card: k,
+                held: h,
+                end: end,
+                taken: i,
+            };
+        }
+        let b = chunk[i];
+        i = i + 1;
+        if b == 10 {
+            let a = end_line(settings, tables, line, out, k, h, end);
+            k = a.card;
+            h = 0;
+            end = a.end;
+        } else {
+            h = keep(line, h, b);
+        }
+    }
+    Stream {
+        card: k,
+        held: h,
+        end: end,
+        taken: i,
+    }
+}
+
+// The end of the input: a line that has begun is answered, if `out` has room for it.
+pub fn finish(
+    settings: &mut [u16],
+    tables: &mut [u16],
+    line: &[u8],
+    out: &mut [u8],
+    card: Card,
+    held: usize,
+) -> Stream
+    ensures { λ r. ⌜ Finished (opened card (now (settings .entry)) (now (tables .entry)) (now (line .entry)) held) (now (out .entry)) (now (out .exit)) (now (settings .exit)) (now (tables .exit)) (now (line .entry)) r ⌝ }
+{
+    let h = least(held, 263);
+    if h == 0 {
+        return unanswered(card, h);
+    }
+    if out.len() < 265 {
+        return unanswered(card, h);
+    }
+    let a = end_line(settings, tables, line, out, card, h, 0);
+    let k = a.card;
+    Stream {
+        card: k,
+        held: 0,
+        end: a.end,
+        taken: 0,
+    }
+}
+
+// The frame that a line is: its first byte names it.
+pub fn parse(s: &[u8]) -> Frame
+    ensures { λ r. ⌜ r ≡ frameOf (now (s .entry)) ⌝ }
+{
+    if !all_digits(s) {
+        return Frame::Bad;
+    }
+    match byte_at(s, 0) {
+        1 => write_frame(s),
+        2 => read_frame(s),
+        3 => ticks_frame(s),
+        4 => event_frame(s),
+        _ => Frame::Bad,
+    }
+}
+
+// ---- the stream
+
+// Nothing is answered.
+fn unanswered(card: Card, held: usize) -> Stream
+    ensures { λ r. ⌜ (r .card ≡ card) × (r .held ≡ held) × (r .end ≡ 0) × (r .taken ≡ 0) ⌝ }
+{
+    Stream {
+        card: card,
+        held: held,
+        end: 0,
+        taken: 0,
+    }
+}
+
+// A line ends: it is answered, and LF ends the answer.
+fn end_line(
+    settings: &mut [u16],
+    tables: &mut [u16],
+    line: &[u8],
+    out: &mut [u8],
+    card: Card,
+    held: usize,
+    at: usize,
+) -> Answered
+    requires { ⌜ at < 2 ^ 63 ⌝ }
+    ensures { λ r. ⌜ Feeds (ended (flow (state card (now (settings .entry)) (now (tables .entry))) (now (line .entry)) held [])) at (now (out .entry)) (now (out .exit)) (now (settings .exit)) (now (tables .exit)) (now (line .entry)) (r .card) 0 (r .end) ⌝ }
+    ensures { λ r. ⌜ r .end ≤ at + 265 ⌝ }
+{
+    let n = least(held, line.len());
+    let a = answer(settings, tables, card, &line[..n], out, at);
+    let end = a.end;
+    put(out, end, 10);
+    let k = a.card;
+    Answered {
+        card: k,
+        end: end + 1,
+    }
+}
+
+// A line goes on: the byte is kept while there is room, and how many are held then.
+fn keep(line: &mut [u8], held: usize, b: u8) -> usize
+    requires { ⌜ held ≤ 263 ⌝ }
+    ensures { λ r. ⌜ Keeps (now (line .entry)) held b (now (line .exit)) r ⌝ }
+{
+    if held < 263 {
+        put(line, held, b);
+        held + 1
+    } else {
+        held
+    }
+}
+
+fn least(a: usize, b: usize) -> usize
+    ensures { λ r. ⌜ (r ≡ min a b) × (r ≤ a) × (r ≤ b) ⌝ }
+{
+    if a < b { a } else { b }
+}
+
+// ---- answers
+
+// The answer to a line, laid into the buffer from `at` on.
+fn answer(
+    settings: &mut [u16],
+    tables: &mut [u16],
+    card: Card,
+    line: &[u8],
+    out: &mut [u8],
+    at: usize,
+) -> Answered
+    requires { ⌜ at < 2 ^ 63 ⌝ }
+    ensures { λ r. ⌜ Answers (stepOf (state card (now (settings .entry)) (now (tables .entry))) (now (line .entry))) at (now (out .entry)) (now (out .exit)) (now (settings .exit)) (now (tables .exit)) r ⌝ }
+{
+    match parse(line) {
+        Frame::Write { start, count } => answer_write(
+            settings,
+            tables,
+            card,
+            line,
+            start,
+            count,
+            out,
+            at,
+        ),
+        Frame::Read { start, count } => {
+            let end = answer_read(settings, card, start, count, out, at);
+            Answered {
+                card: card,
+                end: end,
+            }
+        }
+        Frame::Ticks(n) => answer_ticks(settings, tables, card, line, n, out, at),
+        Frame::Event(e) => answer_event(settings, tables, card, line, e, out, at),
+        Frame::Bad => {
+            put2(out, at, 0xFF);
+            Answered {
+                card: card,
+                end: at + 2,
+            }
+        }
+    }
+}
+
+// 81: a write of the line's words.
+fn answer_write(
+    settings: &mut [u16],
+    tables: &mut [u16],
+    card: Card,
+    line: &[u8],
+    start: u16,
+    count: usize,
+    out: &mut [u8],
+    at: usize,
+) -> Answered
+    requires { ⌜ (at < 2 ^ 63) × (count ≤ 64) ⌝ }
+    ensures { λ r. ⌜ Answers (onFrame (state card (now (settings .entry)) (now (tables .entry))) (now (line .entry)) (Frame.Write start count)) at (now (out .entry)) (now (out .exit)) (now (settings .exit)) (now (tables .exit)) r ⌝ }
+{
+    let mut buffer = [0u16; 64];
+    words(line, count, &mut buffer);
+    let w = transfer::write(settings, tables, card, start, count, &buffer[..count]);
+    let answer = w.answer;
+    put_head(
+        out,
+        at,
+        0x81,
+        transfer::number(answer),
+        transfer::processed(answer),
+    );
+    let k = w.card;
+    Answered {
+        card: k,
+        end: at + 8,
+    }
+}
+
+// 82: a read, with the words read.
+fn answer_read(
+    settings: &[u16],
+    card: Card,
+    start: u16,
+    count: usize,
+    out: &mut [u8],
+    at: usize,
+) -> usize
+    requires { ⌜ (at < 2 ^ 63) × (count ≤ 64) ⌝ }
+    ensures { λ r. ⌜ Puts (readText (readOf (now (settings .entry)) card start count (replicate 64 0))) at (now (out .entry)) (now (out .exit)) r ⌝ }
+{
+    let mut buffer = [0u16; 64];
+    let answer = transfer::read(settings, card, start, count, &mut buffer);
+    let n = transfer::processed(answer);
+    put_head(out, at, 0x82, transfer::number(answer), n);
+    put_words(out, at + 8, &buffer, n);
+    at + 8 + 4 * n
+}
+
+// 83: ticks with no event.
+fn answer_ticks(
+    settings: &[u16],
+    tables: &mut [u16],
+    card: Card,
+    line: &[u8],
+    n: u16,
+    out: &mut [u8],
+    at: usize,
+) -> Answered
+    requires { ⌜ at < 2 ^ 63 ⌝ }
+    ensures { λ r. ⌜ Answers (onFrame (state card (now (settings .entry)) (now (tables .entry))) (now (line .entry)) (Frame.Ticks n)) at (now (out .entry)) (now (out .exit)) (now (settings .entry)) (now (tables .exit)) r ⌝ }
+{
+    let k = card::run(settings, tables, card, n as u32);
+    let end = put_outputs(k, 0x83, out, at);
+    Answered { card: k, end: end }
+}
+
+// 84: one tick with its event.
+fn answer_event(
+    settings: &[u16],
+    tables: &mut [u16],
+    card: Card,
+    line: &[u8],
+    e: u16,
+    out: &mut [u8],
+    at: usize,
+) -> Answered
+    requires { ⌜ at < 2 ^ 63 ⌝ }
+    ensures { λ r. ⌜ Answers (onFrame (state card (now (settings .entry)) (now (tables .entry))) (now (line .entry)) (Frame.Event e)) at (now (out .entry)) (now (out .exit)) (now (settings .entry)) (now (tables .exit)) r ⌝ }
+{
+    let k = card::tick(settings, tables, card, e);
+    let end = put_outputs(k, 0x84, out, at);
+    Answered { card: k, end: end }
+}
+
+// The name and the four outputs.
+fn put_outputs(card: Card, name: usize, out: &mut [u8], at: usize) -> usize
+    requires { ⌜ at < 2 ^ 63 ⌝ }
+    ensures { λ r. ⌜ Puts (outputsText name card) at (now (out .entry)) (now (out .exit)) r ⌝ }
+{
+    put2(out, at, name);
+    let o = outputs(card);
+    put_words(out, at + 2, &o, 4);
+    at + 18
+}
+
+// The outputs of the four channels, in order.
+fn outputs(card: Card) -> [u16; 4]
+    ensures { λ r. ⌜ r ≡ outputsOf card ⌝ }
+{
+    [
+        output(card, 0),
+        output(card, 1),
+        output(card, 2),
+        output(card, 3),
+    ]
+}
+
+fn output(card: Card, c: usize) -> u16
+    ensures { λ r. ⌜ r ≡ channelOf card c .shown .output ⌝ }
+{
+    let ch = card::channel_of(card, c);
+    ch.shown.output
+}
+
+// The head of a transfer's answer: its name, the number, the words processed.
+fn put_head(out: &mut [u8], at: usize, name: usize, number: u16, processed: usize)
+    requires { ⌜ at < 2 ^ 63 ⌝ }
+    ensures { λ _. ⌜ now (out .exit) ≡ sets (now (out .entry)) at (headOf name number processed) ⌝ }
+{
+    put2(out, at, name);
+    put2(out, at + 2, wide(number));
+    put4(out, at + 4, processed);
+}
+
+// The first n words, one after the other.
+fn put_words(out: &mut [u8], at: usize, words: &[u16], n: usize)
+    requires { ⌜ (at < 2 ^ 63 + 1000) × (n ≤ length (now words)) × (n ≤ 64) ⌝ }
+    ensures { λ _. ⌜ now (out .exit) ≡ sets (now (out .entry)) at (hexAll (take n (now (words .entry)))) ⌝ }
+{
+    let mut i: usize = 0;
+    while i < n {
+        put4(out, at + 4 * i, wide(words[i]));
+        i = i + 1;
+    }
+}
+
+// Four digits.
+fn put4(out: &mut [u8], at: usize, x: usize)
+    requires { ⌜ at < 2 ^ 63 + 2000 ⌝ }
+    ensures { λ _. ⌜ now (out .exit) ≡ sets (now (out .entry)) at (hex4 x) ⌝ }
+{
+    put2(out, at, x / 256);
+    put2(out, at + 2, x);
+}
+
+// Two digits.
+fn put2(out: &mut [u8], at: usize, x: usize)
+    requires { ⌜ at < 2 ^ 63 + 3000 ⌝ }
+    ensures { λ _. ⌜ now (out .exit) ≡ sets (now (out .entry)) at (hex2 x) ⌝ }
+{
+    put(out, at, digit(x / 16 % 16));
+    put(out, at + 1, digit(x % 16));
+}
+
+fn digit(n: usize) -> u8
+    requires { ⌜ n < 16 ⌝ }
+    ensures { λ r. ⌜ r ≡ digitOf n ⌝ }
+{
+    if n < 10 {
+        (48 + n) as u8
+    } else {
+        (55 + n) as u8
+    }
+}
+
+// Stores a byte at a place of lent bytes; past their end nothing is stored.
+fn put(out: &mut [u8], at: usize, b: u8)
+    ensures { λ _. ⌜ now (out .exit) ≡ set (now (out .entry)) at b ⌝ }
+{
+    if at < out.len() {
+        out[at] = b;
+    }
+}
+
+// ---- frames
+
+// 01, a start, 0 to 64 words.
+fn write_frame(s: &[u8]) -> Frame
+    ensures { λ r. ⌜ r ≡ writeFrame (now (s .entry)) ⌝ }
+{
+    let n = s.len();
+    if n < 6 {
+        return Frame::Bad;
+    }
+    let k = (n - 6) / 4;
+    if n != 6 + 4 * k {
+        return Frame::Bad;
+    }
+    if 64 < k {
+        return Frame::Bad;
+    }
+    Frame::Write {
+        start: word_at(s, 2),
+        count: k,
+    }
+}
+
+// 02, a start, a count up to 64.
+fn read_frame(s: &[u8]) -> Frame
+    ensures { λ r. ⌜ r ≡ readFrame (now (s .entry)) ⌝ }
+{
+    let n = s.len();
+    if n != 10 {
+        return Frame::Bad;
+    }
+    let asked = word_at(s, 6);
+    if 64 < asked {
+        return Frame::Bad;
+    }
+    Frame::Read {
+        start: word_at(s, 2),
+        count: wide(asked),
+    }
+}
+
+// 03, a number of ticks.
+fn ticks_frame(s: &[u8]) -> Frame
+    ensures { λ r. ⌜ r ≡ ticksFrame (now (s .entry)) ⌝ }
+{
+    let n = s.len();
+    if n != 6 {
+        return Frame::Bad;
+    }
+    Frame::Ticks(word_at(s, 2))
+}
+
+// 04, an event.
+fn event_frame(s: &[u8]) -> Frame
+    ensures { λ r. ⌜ r ≡ eventFrame (now (s .entry)) ⌝ }
+{
+    let n = s.len();
+    if n != 4 {
+        return Frame::Bad;
+    }
+    Frame::Event(byte_at(s, 2))
+}
+
+// The first n words of a write frame.
+fn words(s: &[u8], n: usize, words: &mut [u16; 64])
+    requires { ⌜ n ≤ 64 ⌝ }
+    ensures { λ _. ⌜ now (words .exit) ≡ sets (now (words .entry)) 0 (wordsOf n (now (s .entry))) ⌝ }
+{
+    let mut i: usize = 0;
+    while i < n {
+        words[i] = word_at(s, 6 + 4 * i);
+        i = i + 1;
+    }
+}
+
+// ---- digits
+
+fn all_digits(s: &[u8]) -> bool
+    ensures { λ r. ⌜ r ≡ allDigits (now (s .entry)) ⌝ }
+{
+    let mut i = 0;
+    while i < s.len() {
+        if !is_digit(s[i]) {
+            return false;
+        }
+        i = i + 1;
+    }
+    true
+}
+
+// The four digits from place i on.
+fn word_at(s: &[u8], i: usize) -> u16
+    requires { ⌜ i < 900 ⌝ }
+    ensures { λ r. ⌜ r ≡ wordAt (now (s .entry)) i ⌝ }
+{
+    byte_at(s, i) * 256 + byte_at(s, i + 2)
+}
+
+// The two digits from place i on.
+fn byte_at(s: &[u8], i: usize) -> u16
+    requires { ⌜ i < 1000 ⌝ }
+    ensures { λ r. ⌜ (r ≡ byteAt (now (s .entry)) i) × (r < 256) ⌝ }
+{
+    value(get(s, i)) * 16 + value(get(s, i + 1))
+}
+
+// 0 to 9 or A to F.
+fn is_digit(b: u8) -> bool
+    ensures { λ r. ⌜ r ≡ isDigit b ⌝ }
+{
+    match b {
+        48..=57 => true,
+        65..=70 => true,
+        _ => false,
+    }
+}
+
+fn value(b: u8) -> u16
+    ensures { λ r. ⌜ (r ≡ valueOf b) × (r < 16) ⌝ }
+{
+    match b {
+        48..=57 => (b as u16) - 48,
+        65..=70 => (b as u16) - 55,
+        _ => 0,
+    }
+}
+
+// The byte at a place of lent bytes; past their end it is 0.
+fn get(s: &[u8], i: usize) -> u8
+    ensures { λ r. ⌜ r ≡ getD (now (s .entry)) i 0 ⌝ }
+{
+    if i < s.len() { s[i] } else { 0 }
+}
+
+fn wide(x: u16) -> usize
+    ensures { λ r. ⌜ r ≡ x ⌝ }
+{
+    x as usize
+}
