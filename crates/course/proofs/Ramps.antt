@@ -12,7 +12,7 @@ use Rattle.word.specs.Table.{valueAt, stepAt, isEnd}
 use Rattle.sum.specs.declared.Sum.{Sum}
 use Rattle.sum.specs.declared.Sum.the-variants.{Overflow}
 use Rattle.sum.specs.Sample.{sampleOf}
-use Rattle.sum.specs.Ramp.{countdown, ending, rampFrom, stepsFrom}
+use Rattle.sum.specs.Ramp.{downTo, ending, rampFrom, stepsFrom}
 use Rattle.channel.specs.declared.Loaded.{Loaded}
 use Rattle.channel.specs.Ramp.{place, sampleAt}
 use Rattle.course.specs.Points.{placeFrom, placeOf}
@@ -21,19 +21,19 @@ use Rattle.course.proofs.Walk.{to-come, total-all}
 
 -- ---- m samples left down to 1
 
-countdown-in : (at : ℕ → Sum) (m : ℕ) (rest : List Sum) (k : ℕ) → k < m → getD (countdown at m rest) k Overflow ≡ at (m - k)
-countdown-in at zero rest k h = absurd (omega arith)
-countdown-in at (suc m) rest zero h = ap at (omega arith)
-countdown-in at (suc m) rest (suc k) h = countdown-in at m rest k (omega arith) ∙ ap at (omega arith)
+downTo-in : (at : ℕ → Sum) (m : ℕ) (rest : List Sum) (k : ℕ) → k < m → getD (downTo at m rest) k Overflow ≡ at (m - k)
+downTo-in at zero rest k h = absurd (omega arith)
+downTo-in at (suc m) rest zero h = ap at (omega arith)
+downTo-in at (suc m) rest (suc k) h = downTo-in at m rest k (omega arith) ∙ ap at (omega arith)
 
-countdown-past : (at : ℕ → Sum) (m : ℕ) (rest : List Sum) (k : ℕ) → m ≤ k → getD (countdown at m rest) k Overflow ≡ getD rest (k - m) Overflow
-countdown-past at zero rest k h = ap (λ (i : ℕ). getD rest i Overflow) (omega arith)
-countdown-past at (suc m) rest zero h = absurd (omega arith)
-countdown-past at (suc m) rest (suc k) h = countdown-past at m rest k (omega arith) ∙ ap (λ (i : ℕ). getD rest i Overflow) (omega arith)
+downTo-past : (at : ℕ → Sum) (m : ℕ) (rest : List Sum) (k : ℕ) → m ≤ k → getD (downTo at m rest) k Overflow ≡ getD rest (k - m) Overflow
+downTo-past at zero rest k h = ap (λ (i : ℕ). getD rest i Overflow) (omega arith)
+downTo-past at (suc m) rest zero h = absurd (omega arith)
+downTo-past at (suc m) rest (suc k) h = downTo-past at m rest k (omega arith) ∙ ap (λ (i : ℕ). getD rest i Overflow) (omega arith)
 
-countdown-length : (at : ℕ → Sum) (m : ℕ) (rest : List Sum) → length (countdown at m rest) ≡ m + length rest
-countdown-length at zero rest = omega arith
-countdown-length at (suc m) rest = ap suc (countdown-length at m rest) ∙ omega arith
+downTo-length : (at : ℕ → Sum) (m : ℕ) (rest : List Sum) → length (downTo at m rest) ≡ m + length rest
+downTo-length at zero rest = omega arith
+downTo-length at (suc m) rest = ap suc (downTo-length at m rest) ∙ omega arith
 
 -- before point 63 a time step of 0 is what ends the ramp
 end-step : (n step : ℕ) → n < 63 → isEnd n step ≡ eqb step 0
@@ -65,10 +65,10 @@ module _ (w : List ℕ) (first : ℕ) (l : Loaded) where
   many-from (suc f) n h = rw (end-step n (stepAt w first n) (omega arith)) (go (eqb (stepAt w first n) 0) (many-from f (n + 1) (omega arith)))
     where
       go : (b : Bool) → length (from f (n + 1)) ≡ to-come w first f (n + 1) + 1
-          → length (cond b (ending (l .scale) (l .offset) (pointAt w first n)) (countdown (along n) (stepAt w first n) (from f (n + 1))))
+          → length (cond b (ending (l .scale) (l .offset) (pointAt w first n)) (downTo (along n) (stepAt w first n) (from f (n + 1))))
           ≡ cond b 0 (stepAt w first n + to-come w first f (n + 1)) + 1
       go true e = refl
-      go false e = countdown-length (along n) (stepAt w first n) (from f (n + 1)) ∙ omega arith
+      go false e = downTo-length (along n) (stepAt w first n) (from f (n + 1)) ∙ omega arith
 
   each-from : (f n k : ℕ) → f + n ≡ 63 → k ≤ to-come w first f n → getD (from f n) k Overflow ≡ sampleAt w first l (placeFrom w first f n k)
   each-from zero n k h g = let k0 : k ≡ 0 = omega arith in rw k0 (sample-end n)
@@ -81,15 +81,15 @@ module _ (w : List ℕ) (first : ℕ) (l : Loaded) where
       go : (b d : Bool) → ltb k (stepAt w first n) ≡ d → k ≤ cond b 0 (stepAt w first n + to-come w first f (n + 1))
           → (k - stepAt w first n ≤ to-come w first f (n + 1)
           → getD (from f (n + 1)) (k - stepAt w first n) Overflow ≡ sampleAt w first l (placeFrom w first f (n + 1) (k - stepAt w first n)))
-          → getD (cond b (ending (l .scale) (l .offset) (pointAt w first n)) (countdown (along n) (stepAt w first n) (from f (n + 1)))) k Overflow
+          → getD (cond b (ending (l .scale) (l .offset) (pointAt w first n)) (downTo (along n) (stepAt w first n) (from f (n + 1)))) k Overflow
           ≡ sampleAt w first l
           (cond b (place n 0) (cond d (place n (stepAt w first n - k)) (placeFrom w first f (n + 1) (k - stepAt w first n))))
       go true d e u ih = let k0 : k ≡ 0 = omega arith in rw k0 (sample-end n)
       go false true e u ih =
-          countdown-in (along n) (stepAt w first n) (from f (n + 1)) k (omega (arith, ltb-true))
+          downTo-in (along n) (stepAt w first n) (from f (n + 1)) k (omega (arith, ltb-true))
           ∙ sample-along n (stepAt w first n - k) (omega (arith, ltb-true))
       go false false e u ih =
-          countdown-past (along n) (stepAt w first n) (from f (n + 1)) k (omega (arith, ltb-false)) ∙ ih (omega (arith, ltb-false))
+          downTo-past (along n) (stepAt w first n) (from f (n + 1)) k (omega (arith, ltb-false)) ∙ ih (omega (arith, ltb-false))
 
   -- The samples of a table's ramp are those of its points, in order
   pub in-order : InOrder w first l

@@ -1,0 +1,50 @@
+-- A card with one channel changed: that channel, and the others; a card with one count changed. Assumes nothing.
+use mathlib.Core.Path.{_≡_, refl, ap}
+use mathlib.Core.Bool.{Bool, true, false, cond}
+use mathlib.Core.List.{List}
+use Prim.Native.Nat.{ℕ, _<_, _≤_}
+use native.Mathlib.Omega.{arith}
+use lib.Dec.{ltb, leb}
+use lib.ListN.{length, getD, set, length-set}
+use lib.Seq.{getD-set-same, getD-set-other, set-out}
+use borrow.Author.Tests.{lt-ltb, leb-true, leb-false}
+use Rattle.channel.specs.declared.Channel.{Channel}
+use Rattle.card.specs.declared.Card.{Card}
+use Rattle.card.specs.Card.{noChannel, channelOf, withChannel, withCount}
+
+module _ (k : Card) (c : ℕ) (ch : Channel) where
+  pub channel-other : (j : ℕ) → (j ≡ c → ⊥) → channelOf (withChannel k c ch) j ≡ channelOf k j
+  channel-other j d = go (ltb c 4)
+    where
+      go : (b : Bool) → channelOf (cond b (record { channels = set (k .channels) c ch; counts = k .counts; level = k .level; event = k .event }) k) j ≡ channelOf k j
+      go true = rw (getD-set-other (k .channels) c j ch noChannel d)
+      go false = refl
+
+  -- what is so of the new channel and of the old one
+  pub channel-either : (P : Channel → Type 0) → P ch → P (channelOf k c) → P (channelOf (withChannel k c ch) c)
+  channel-either P p q = go (ltb c 4) refl (leb (length (k .channels)) c) refl
+    where
+      go : (b : Bool) → ltb c 4 ≡ b → (d : Bool) → leb (length (k .channels)) c ≡ d
+          → P (channelOf (cond b (record { channels = set (k .channels) c ch; counts = k .counts; level = k .level; event = k .event }) k) c)
+      go true e true f = rw (set-out (k .channels) c ch (leb-true (length (k .channels)) c f)) q
+      go true e false f = let g = leb-false (length (k .channels)) c f in rw (e, getD-set-same (k .channels) c ch noChannel g) p
+      go false e d f = q
+
+  -- the new channel, where the card has four
+  pub channel-same : c < 4 → length (k .channels) ≡ 4 → channelOf (withChannel k c ch) c ≡ ch
+  channel-same h l = rw (lt-ltb c 4 h) (getD-set-same (k .channels) c ch noChannel (omega arith))
+
+  pub channel-many : length (withChannel k c ch .channels) ≡ length (k .channels)
+  channel-many = go (ltb c 4)
+    where
+      go : (b : Bool) → length (cond b (record { channels = set (k .channels) c ch; counts = k .counts; level = k .level; event = k .event }) k .channels) ≡ length (k .channels)
+      go true = length-set (k .channels) c ch
+      go false = refl
+
+-- a count changes no channel
+pub count-channels : (k : Card) (level n : ℕ) → withCount k level n .channels ≡ k .channels
+count-channels k level n = go (ltb level 32)
+  where
+    go : (b : Bool) → cond b (record { channels = k .channels; counts = set (k .counts) level n; level = k .level; event = k .event }) k .channels ≡ k .channels
+    go true = refl
+    go false = refl

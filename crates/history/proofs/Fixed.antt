@@ -1,0 +1,66 @@
+-- The registers of the fixed words, of the scale factors and of the slots, each found in its row. Assumes nothing.
+use mathlib.Core.Path.{_≡_, refl, sym, ap, _∙_}
+use mathlib.Core.Bool.{Bool, true, false, cond}
+use mathlib.Core.List.{List}
+use Prim.Native.Nat.{ℕ, _+_, _*_, _-_, _/_, _%_, _≤_, _<_}
+use native.Mathlib.Omega.{arith}
+use lib.ListN.{length, getD}
+use borrow.Author.Tests.{lt-ltb}
+use Rattle.map.specs.declared.Setting.{Setting}
+use Rattle.map.specs.declared.Setting.the-variants as S
+use Rattle.map.specs.declared.Register.{Register}
+use Rattle.map.specs.declared.Register.the-variants as R
+use Rattle.map.specs.Map.{Row, scan, channelRows, cardRows, base, noRow, settings, point, namedIn, registerOf, acceptedIn, acceptedAt}
+use Rattle.map.specs.Addresses.{tableAt, rampMapAt, scaleAt, offsetAt}
+use Rattle.map.proofs.Rows.{found, in-row-k}
+use Rattle.map.proofs.Values.{free}
+use Rattle.map.proofs.Blocks.{channel-ordered, card-ordered, in-card, channel-register, channel-accepted}
+use Rattle.transfer.specs.Word.{fixedAt}
+
+-- a slot's register names its level
+pub slot-register : (a : ℕ) → 0x4000 ≤ a → a < 0x4100 → registerOf a ≡ R.Slot ((a - 0x4000) / 8)
+unfolding cardRows
+slot-register a f g = rw (in-card a f) (sym (in-row-k (a / 0x1000) cardRows card-ordered 0 a (omega arith) f (omega arith)))
+
+-- row k of a channel's rows, at offset o
+channel-row : (c o k : ℕ) → c < 4 → o < 0x1000 → k < length channelRows → getD channelRows k noRow .region .first ≤ o → o ≤ getD channelRows k noRow .region .last
+    → registerOf (base c + o) ≡ getD channelRows k noRow .meaning c (o - getD channelRows k noRow .region .first)
+channel-row c o k h l n f g =
+    let d : (base c + o) / 0x1000 ≡ c = omega arith in
+    let m : (base c + o) % 0x1000 ≡ o = omega arith in
+    rw (channel-register (base c + o) (omega arith), d, m) (sym (in-row-k c channelRows channel-ordered k o n f g))
+
+-- a word before the first `n` of a row of settings is fixed
+fixed-in : (n : ℕ) (s : ℕ → Setting) (c o : ℕ) → o < n → fixedAt (settings n s c o) ≡ true
+fixed-in n s c o h = rw (lt-ltb o n h)
+
+pub table0-fixed : (c i : ℕ) → c < 4 → i < 128 → fixedAt (registerOf (tableAt c 0 + i)) ≡ true
+unfolding channelRows
+table0-fixed c i h l =
+    let e : tableAt c 0 + i ≡ base c + i = omega arith in
+    rw (e, channel-row c i 0 h (omega arith) (omega arith) (omega arith) (omega arith)) (fixed-in 128 point c (i - 0) (omega arith))
+
+pub scale0-fixed : (c : ℕ) → c < 4 → fixedAt (registerOf (scaleAt c 0)) ≡ true
+unfolding channelRows
+scale0-fixed c h =
+    let e : scaleAt c 0 ≡ base c + 0x860 = omega arith in
+    rw (e, channel-row c 0x860 3 h (omega arith) (omega arith) (omega arith) (omega arith))
+
+pub offset0-fixed : (c : ℕ) → c < 4 → fixedAt (registerOf (offsetAt c 0)) ≡ true
+unfolding channelRows
+offset0-fixed c h =
+    let e : offsetAt c 0 ≡ base c + 0x8A0 = omega arith in
+    rw (e, channel-row c 0x8A0 5 h (omega arith) (omega arith) (omega arith) (omega arith))
+
+-- a scale factor accepts any word
+pub scale-accepts : (c a v : ℕ) → c < 4 → scaleAt c 0 ≤ a → a < scaleAt c 0 + 32 → acceptedAt a v ≡ true
+unfolding channelRows
+scale-accepts c a v h f g =
+    rw (channel-accepted a (omega arith) v, found 0 channelRows channel-ordered 3 (a % 0x1000) (omega arith) (omega arith) (omega arith))
+
+-- the ramp map's word for a level
+pub ramp-map-register : (c level : ℕ) → c < 4 → level < 32 → registerOf (rampMapAt c level) ≡ R.Setting S.RampMap
+unfolding channelRows
+ramp-map-register c level h l =
+    let e : rampMapAt c level ≡ base c + (0x800 + level) = omega arith in
+    rw (e, channel-row c (0x800 + level) 1 h (omega arith) (omega arith) (omega arith) (omega arith)) (sym (free 0 (λ o. S.RampMap) c (0x800 + level - 0x800) (omega arith)))

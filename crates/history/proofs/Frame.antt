@@ -1,0 +1,172 @@
+-- A write in channel c's block touches that channel alone (`frame`), and a write anywhere keeps the lengths (`lengths-kept`): each word
+-- does so by its register, and so the whole write. A read has no state in its answer, so it changes the lent words only. Assumes nothing.
+use mathlib.Core.Path.{_≡_, refl, _∙_}
+use mathlib.Core.Bool.{Bool, true, false, cond}
+use mathlib.Core.List.{List}
+use Prim.Native.Nat.{ℕ, _+_, _≤_, _<_}
+use native.Mathlib.Omega.{arith}
+use lib.Dec.{eqb, ltb}
+use lib.ListN.{length, set, length-set}
+use lib.Seq.{getD-set-other}
+use Rattle.map.specs.declared.Register.{Register}
+use Rattle.map.specs.declared.Register.the-variants as R
+use Rattle.map.specs.Map.{base, registerOf}
+use Rattle.slots.specs.Slots.{erased}
+use Rattle.slots.proofs.Fills.{erased-length}
+use Rattle.channel.specs.declared.Channel.{Channel}
+use Rattle.channel.specs.Channel.{word, triggered}
+use Rattle.card.specs.declared.Card.{Card}
+use Rattle.card.specs.Card.{State, state, channelOf, withChannel, onAll}
+use Rattle.card.specs.Trigger.{triggerOf}
+use Rattle.transfer.specs.declared.Verdict.{Verdict}
+use Rattle.transfer.specs.declared.Verdict.the-variants.{Accepted, Refused}
+use Rattle.transfer.specs.declared.Effect.{Effect}
+use Rattle.transfer.specs.declared.Effect.the-variants.{Keep, Output, ClearOverflow, ClearCount, Erase, Trigger, Nothing}
+use Rattle.transfer.specs.Word.{judgeOf, effectOf, outputTo, overflowCleared, performOf, onVerdict, writeWord}
+use Rattle.course.proofs.Copies.{trigger-length}
+use Rattle.history.specs.Frame.{InBlock, But, Frame, SameLengths, LengthsKept}
+use Rattle.history.proofs.Registers.{Own, own, region-ends}
+use Rattle.history.proofs.Cards.{channel-other, channel-either}
+use Rattle.history.proofs.Transfers.{each-any, write-keeps}
+
+-- ---- one word
+
+pub but-none : (c : ℕ) (x : State) → But c x x
+but-none c x =
+    record {
+      others = λ j d. refl;
+      phase = refl;
+      pending = refl;
+      loaded = refl;
+      counts = refl;
+      level = refl;
+      event = refl;
+      tables = refl;
+      settings = λ a d. refl;
+    }
+
+pub but-then : (c : ℕ) (x y z : State) → But c x y → But c y z → But c x z
+but-then c x y z p q =
+    record {
+      others = λ j d. q .others j d ∙ p .others j d;
+      phase = q .phase ∙ p .phase;
+      pending = q .pending ∙ p .pending;
+      loaded = q .loaded ∙ p .loaded;
+      counts = q .counts ∙ p .counts;
+      level = q .level ∙ p .level;
+      event = q .event ∙ p .event;
+      tables = q .tables ∙ p .tables;
+      settings = λ a d. q .settings a d ∙ p .settings a d;
+    }
+
+module _ (c : ℕ) (x : State) where
+  but-kept : (a v : ℕ) → InBlock c a → But c x (performOf x a (Keep v))
+  but-kept a v i =
+      record {
+        others = λ j d. refl;
+        phase = refl;
+        pending = refl;
+        loaded = refl;
+        counts = refl;
+        level = refl;
+        event = refl;
+        tables = refl;
+        settings = λ b d. getD-set-other (x .settings) a b v 0 (λ e. d (rw e i));
+      }
+
+  -- the channel's words shown
+  but-shown : (ch : Channel) → ch .phase ≡ channelOf (x .card) c .phase → ch .level ≡ channelOf (x .card) c .level → ch .loaded ≡ channelOf (x .card) c .loaded
+      → But c x (state (withChannel (x .card) c ch) (x .settings) (x .tables))
+  but-shown ch p q r =
+      record {
+        others = λ j d. channel-other (x .card) c ch j d;
+        phase = channel-either (x .card) c ch (λ y. y .phase ≡ channelOf (x .card) c .phase) p refl;
+        pending = channel-either (x .card) c ch (λ y. y .level ≡ channelOf (x .card) c .level) q refl;
+        loaded = channel-either (x .card) c ch (λ y. y .loaded ≡ channelOf (x .card) c .loaded) r refl;
+        counts = rest-counts (ltb c 4);
+        level = rest-level (ltb c 4);
+        event = rest-event (ltb c 4);
+        tables = refl;
+        settings = λ b d. refl;
+      }
+    where
+      new : Card
+      new = record { channels = set (x .card .channels) c ch; counts = x .card .counts; level = x .card .level; event = x .card .event }
+
+      rest-counts : (b : Bool) → cond b new (x .card) .counts ≡ x .card .counts
+      rest-counts true = refl
+      rest-counts false = refl
+
+      rest-level : (b : Bool) → cond b new (x .card) .level ≡ x .card .level
+      rest-level true = refl
+      rest-level false = refl
+
+      rest-event : (b : Bool) → cond b new (x .card) .event ≡ x .card .event
+      rest-event true = refl
+      rest-event false = refl
+
+  but-done : (r : Register) (a v : ℕ) → Own c r → InBlock c a → But c x (performOf x a (effectOf r v))
+  but-done (R.Setting s) a v o i = but-kept a v i
+  but-done (R.Fixed s) a v o i = but-none c x
+  but-done (R.Output d) a v o i = rw o (but-shown (outputTo (channelOf (x .card) c) v) refl refl refl)
+  but-done (R.Status d f) a v o i = but-none c x
+  but-done (R.Overflow d) a v o i = rw o (but-shown (overflowCleared (channelOf (x .card) c)) refl refl refl)
+  but-done R.Unlisted a v o i = but-none c x
+
+  but-word : c < 4 → (a v : ℕ) → InBlock c a → But c x (writeWord x a v .state)
+  unfolding writeWord
+  but-word h a v i = go (judgeOf (x .settings) (x .card) (registerOf a) v)
+    where
+      go : (d : Verdict) → But c x (onVerdict d x a v .state)
+      go Accepted = but-done (registerOf a) a v (own c a h i) i
+      go (Refused why) = but-none c x
+
+-- A WRITE IN CHANNEL c'S BLOCK TOUCHES THAT CHANNEL ALONE
+pub frame : Frame
+unfolding Frame
+frame c h st start count ws i =
+    write-keeps (But c st) (λ v. Unit) st start count ws (each-any ws)
+    (λ q e x a v f g t p. let l = region-ends c start q h i e in but-then c st x (writeWord x a v .state) p (but-word c x h a v (omega arith, omega arith)))
+    (but-none c st)
+
+-- ---- the lengths
+
+same-then : (x y z : State) → SameLengths x y → SameLengths y z → SameLengths x z
+same-then x y z p q = record { settings = q .settings ∙ p .settings; tables = q .tables ∙ p .tables }
+
+pub trigger-lengths : (x : State) (level event : ℕ) → SameLengths x (triggerOf x level event)
+unfolding triggerOf onAll
+trigger-lengths x level event =
+    record {
+      settings = refl;
+      tables =
+          trigger-length (x .settings) _ 3 _ level
+          ∙ trigger-length (x .settings) _ 2 _ level
+          ∙ trigger-length (x .settings) _ 1 _ level
+          ∙ trigger-length (x .settings) (x .tables) 0 _ level;
+    }
+
+lengths-done : (x : State) (a : ℕ) (e : Effect) → SameLengths x (performOf x a e)
+lengths-done x a (Keep v) = record { settings = length-set (x .settings) a v; tables = refl }
+lengths-done x a (Output c v) = record { settings = refl; tables = refl }
+lengths-done x a (ClearOverflow c) = record { settings = refl; tables = refl }
+lengths-done x a (ClearCount level) = record { settings = refl; tables = refl }
+lengths-done x a Erase = record { settings = erased-length (x .settings); tables = refl }
+lengths-done x a (Trigger level) = trigger-lengths x level 0xFE
+lengths-done x a Nothing = record { settings = refl; tables = refl }
+
+pub lengths-word : (x : State) (a v : ℕ) → SameLengths x (writeWord x a v .state)
+unfolding writeWord
+lengths-word x a v = go (judgeOf (x .settings) (x .card) (registerOf a) v)
+  where
+    go : (d : Verdict) → SameLengths x (onVerdict d x a v .state)
+    go Accepted = lengths-done x a (effectOf (registerOf a) v)
+    go (Refused why) = record { settings = refl; tables = refl }
+
+-- A WRITE KEEPS THE LENGTHS
+pub lengths-kept : LengthsKept
+unfolding LengthsKept
+lengths-kept st start count ws =
+    write-keeps (SameLengths st) (λ v. Unit) st start count ws (each-any ws)
+    (λ q e x a v f g t p. same-then st x (writeWord x a v .state) p (lengths-word x a v))
+    (record { settings = refl; tables = refl })

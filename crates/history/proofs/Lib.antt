@@ -1,0 +1,12 @@
+pub mod Registers
+pub mod Cards
+pub mod Transfers
+pub mod Frame
+pub mod Fixed
+pub mod Words
+pub mod Channels
+pub mod Sound
+pub mod Turns
+pub mod Done
+pub mod Manual
+pub mod Demand3

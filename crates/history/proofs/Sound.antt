@@ -1,0 +1,333 @@
+-- A reset makes a sound state, and ticks, events and writes keep it (`reachable`): the settings word by word, the channels one after the
+-- other, each over the tables that the one before left. Assumes nothing.
+use mathlib.Core.Path.{_≡_, refl, sym, ap, _∙_}
+use mathlib.Core.Bool.{Bool, true, false, cond, true≢false}
+use mathlib.Core.List.{List, [], _∷_}
+use Prim.Native.Nat.{ℕ, zero, suc, _+_, _*_, _-_, _≤_, _<_}
+use native.Mathlib.Omega.{arith}
+use native.Mathlib.Nat.{mod-lt}
+use lib.Dec.{leb, ltb, eqb}
+use lib.ListN.{length, getD, set, replicate, length-set, getD-replicate, List·getD-eq-default}
+use borrow.Author.Tests.{lt-ltb, ltb-true, ltb-false, leb-true, eqb-true, eqb-false}
+use Rattle.word.specs.Word.{grown}
+use Rattle.map.specs.declared.Register.{Register}
+use Rattle.map.specs.declared.Register.the-variants as R
+use Rattle.map.specs.Map.{registerOf}
+use Rattle.map.proofs.Values.{accepted-is}
+use Rattle.slots.specs.declared.Holder.{Holder}
+use Rattle.slots.specs.declared.Holder.the-variants.{Level, Nobody}
+use Rattle.slots.specs.Slots.{holderOf}
+use Rattle.slots.proofs.Fills.{filled-length, filled-in}
+use Rattle.slots.proofs.Holders.{Held, level-held}
+use Rattle.channel.specs.declared.Channel.{Channel}
+use Rattle.channel.specs.Channel.{Side, word, resetChannel, tickOf, triggered}
+use Rattle.card.specs.declared.Card.{Card}
+use Rattle.card.specs.Card.{State, state, All, noChannel, channelOf, withChannel, countOf, withCount, withChannels, onAll}
+use Rattle.card.specs.Trigger.{counted, showing, struck, triggerOf, acceptedOf, onEvent, eventOf}
+use Rattle.card.specs.Tick.{moved, advanced, tickWith, ticks}
+use Rattle.card.specs.Reset.{settingsReset, tablesReset, cardReset, resetOf}
+use Rattle.transfer.specs.declared.Verdict.{Verdict}
+use Rattle.transfer.specs.declared.Verdict.the-variants.{Accepted, Refused}
+use Rattle.transfer.specs.declared.Effect.{Effect}
+use Rattle.transfer.specs.declared.Effect.the-variants.{Keep, Output, ClearOverflow, ClearCount, Erase, Trigger, Nothing}
+use Rattle.transfer.specs.Word.{judgeOf, effectOf, outputTo, overflowCleared, performOf, onVerdict, writeWord}
+use Rattle.transfer.specs.Transfer.{writeOf}
+use Rattle.history.specs.Sound.{isSetting, Words, Tables, ShownSound, ChannelSound, CardSound, Sound, Each, Reachable}
+use Rattle.history.proofs.Fixed.{slot-register}
+use Rattle.history.proofs.Words.{Passed, passed, set-word, stored, erased-words, reset-words}
+use Rattle.history.proofs.Channels.{SideSound, tick-sound, strike-sound}
+use Rattle.history.proofs.Cards.{channel-other, channel-either, count-channels}
+use Rattle.history.proofs.Transfers.{write-keeps}
+
+-- ---- the four channels
+
+no-channel-sound : ChannelSound noChannel
+no-channel-sound =
+    record {
+      phase = tt;
+      level = omega arith;
+      table = omega arith;
+      scale = omega arith;
+      offset = omega arith;
+      shown = record { output = omega arith; segment = omega arith; left = omega arith; overflow = omega arith };
+    }
+
+four-sound : (k : Card) (a b c d : Channel) → ChannelSound a → ChannelSound b → ChannelSound c → ChannelSound d
+    → (j : ℕ) → ChannelSound (channelOf (withChannels k (a ∷ b ∷ c ∷ d ∷ [])) j)
+four-sound k a b c d p q r s zero = p
+four-sound k a b c d p q r s (suc zero) = q
+four-sound k a b c d p q r s (suc (suc zero)) = r
+four-sound k a b c d p q r s (suc (suc (suc zero))) = s
+four-sound k a b c d p q r s (suc (suc (suc (suc n)))) = go (ltb (suc (suc (suc (suc n)))) 4)
+  where
+    go : (x : Bool) → ChannelSound (cond x noChannel noChannel)
+    go true = no-channel-sound
+    go false = no-channel-sound
+
+-- what keeps each channel sound keeps all four
+module _ (f : ℕ → List ℕ → Channel → Side)
+    (keep : (c : ℕ) → c < 4 → (l : List ℕ) (ch : Channel) → ChannelSound ch → Tables l → SideSound (f c l ch)) (k : Card) (l : List ℕ) where
+  record AllSound (x : All) : Type 0 where
+    four : length (x .channels) ≡ 4
+    channels : (j : ℕ) → ChannelSound (channelOf (withChannels k (x .channels)) j)
+    tables : Tables (x .tables)
+
+  all-sound : ((c : ℕ) → ChannelSound (channelOf k c)) → Tables l → AllSound (onAll f k l)
+  unfolding onAll
+  all-sound h t =
+      let a = keep 0 (omega arith) l (channelOf k 0) (h 0) t in
+      let b = keep 1 (omega arith) _ (channelOf k 1) (h 1) (a .tables) in
+      let c = keep 2 (omega arith) _ (channelOf k 2) (h 2) (b .tables) in
+      let d = keep 3 (omega arith) _ (channelOf k 3) (h 3) (c .tables) in
+      record { four = refl; channels = four-sound k _ _ _ _ (a .channel) (b .channel) (c .channel) (d .channel); tables = d .tables }
+
+-- ---- a tick and a trigger
+
+count-small : (k : Card) (level n : ℕ) → n < 65536 → ((j : ℕ) → countOf k j < 65536) → (j : ℕ) → countOf (withCount k level n) j < 65536
+count-small k level n h g j = go (ltb level 32)
+  where
+    at : (b : Bool) → cond b (getD (k .counts) j 0) 0 < 65536 → cond b (getD (set (k .counts) level n) j 0) 0 < 65536
+    at true p = set-word (λ y. y < 65536) (k .counts) level n j (λ e. h) p
+    at false p = p
+
+    go : (b : Bool) → countOf (cond b (record { channels = k .channels; counts = set (k .counts) level n; level = k .level; event = k .event }) k) j < 65536
+    go true = at (ltb j 32) (g j)
+    go false = g j
+
+count-many : (k : Card) (level n : ℕ) → length (withCount k level n .counts) ≡ length (k .counts)
+count-many k level n = go (ltb level 32)
+  where
+    go : (b : Bool) → length (cond b (record { channels = k .channels; counts = set (k .counts) level n; level = k .level; event = k .event }) k .counts) ≡ length (k .counts)
+    go true = length-set (k .counts) level n
+    go false = refl
+
+grown-word : (n : ℕ) → grown n < 65536
+grown-word n = mod-lt (n + 1) (omega arith)
+
+module _ (st : State) (h : Sound st) where
+  advanced-sound : Sound (advanced st)
+  unfolding advanced
+  advanced-sound =
+      let a = all-sound (λ c l ch. tickOf (st .settings) l c ch) (λ c i l ch g t. tick-sound (st .settings) (h .settings) l c i ch g t) (st .card) (st .tables) (h .card .channels) (h .tables) in
+      record {
+        settings = h .settings;
+        tables = a .tables;
+        card =
+            record {
+              four = a .four;
+              channels = a .channels;
+              many = h .card .many;
+              counts = h .card .counts;
+              level = h .card .level;
+              event = h .card .event;
+            };
+      }
+
+  trigger-sound : (level event : ℕ) → level < 32 → event < 256 → Sound (triggerOf st level event)
+  unfolding triggerOf
+  trigger-sound level event i j =
+      let a = all-sound (λ c l ch. triggered (st .settings) l c ch level) (λ c u l ch g t. strike-sound (st .settings) (h .settings) l c u ch g t level i) (st .card) (st .tables) (h .card .channels) (h .tables) in
+      let k : Card = withChannels (st .card) (struck st level .channels) in
+      let e = count-channels k level (grown (countOf k level)) in
+      record {
+        settings = h .settings;
+        tables = a .tables;
+        card =
+            record {
+              four = rw e (a .four);
+              channels = rw e (a .channels);
+              many = count-many k level (grown (countOf k level)) ∙ h .card .many;
+              counts = count-small k level (grown (countOf k level)) (grown-word (countOf k level)) (h .card .counts);
+              level = i;
+              event = j;
+            };
+      }
+
+  -- an event that is accepted is held by a slot, which names one of 32 levels and holds one byte
+  held-sound : (level event : ℕ) → holderOf (st .settings) event ≡ Level level → (level < 32) × (event < 256)
+  held-sound level event e =
+      let y = level-held (st .settings) event 32 level e in
+      let a : ℕ = 0x4000 + y .slot in
+      let r = slot-register (0x4000 + y .slot) (omega (arith, y .inside)) (omega (arith, y .inside)) in
+      let g = h .settings .accepted (0x4000 + y .slot) (rw r) in
+      let b = leb-true (word (st .settings) (0x4000 + y .slot)) 0xFF (sym (accepted-is (0x4000 + y .slot) (word (st .settings) (0x4000 + y .slot)) ∙ rw r) ∙ g) in
+      (omega (arith, y .inside, y .level), omega (arith, b, y .stored))
+
+  event-sound : (event : ℕ) → Sound (eventOf st event)
+  unfolding acceptedOf
+  event-sound event = go (eqb event 0xFE) (eqb (word (st .settings) 0x4200) 1)
+    where
+      by : (r : Holder) → holderOf (st .settings) event ≡ r → Sound (onEvent r st event)
+      by (Level level) e = let y = held-sound level event e in trigger-sound level event (y .0) (y .1)
+      by Nobody e = h
+
+      go : (a b : Bool) → Sound (onEvent (cond a Nobody (cond b (holderOf (st .settings) event) Nobody)) st event)
+      go true b = h
+      go false true = by (holderOf (st .settings) event) refl
+      go false false = h
+
+  -- ---- a word written
+
+  channel-sound : (c : ℕ) (ch : Channel) → ChannelSound ch → Sound (state (withChannel (st .card) c ch) (st .settings) (st .tables))
+  channel-sound c ch g = go (ltb c 4) refl
+    where
+      all : (j : ℕ) → ChannelSound (channelOf (withChannel (st .card) c ch) j)
+      all j = by (eqb j c) refl
+        where
+          by : (b : Bool) → eqb j c ≡ b → ChannelSound (channelOf (withChannel (st .card) c ch) j)
+          by true e = let d = eqb-true j c e in rw d (channel-either (st .card) c ch ChannelSound g (h .card .channels c))
+          by false e = rw (channel-other (st .card) c ch j (eqb-false j c e)) (h .card .channels j)
+
+      go : (b : Bool) → ltb c 4 ≡ b → Sound (state (withChannel (st .card) c ch) (st .settings) (st .tables))
+      go true e =
+          record {
+            settings = h .settings;
+            tables = h .tables;
+            card =
+                record {
+                  four = rw e (length-set (st .card .channels) c ch ∙ h .card .four);
+                  channels = all;
+                  many = rw e (h .card .many);
+                  counts = rw e (h .card .counts);
+                  level = rw e (h .card .level);
+                  event = rw e (h .card .event);
+                };
+          }
+      go false e = rw e h
+
+  cleared-sound : (level : ℕ) → Sound (state (withCount (st .card) level 0) (st .settings) (st .tables))
+  cleared-sound level =
+      record {
+        settings = h .settings;
+        tables = h .tables;
+        card =
+            record {
+              four = rw (count-channels (st .card) level 0) (h .card .four);
+              channels = rw (count-channels (st .card) level 0) (h .card .channels);
+              many = count-many (st .card) level 0 ∙ h .card .many;
+              counts = count-small (st .card) level 0 (omega arith) (h .card .counts);
+              level = go-level (ltb level 32);
+              event = go-event (ltb level 32);
+            };
+      }
+    where
+      new : Card
+      new = record { channels = st .card .channels; counts = set (st .card .counts) level 0; level = st .card .level; event = st .card .event }
+
+      go-level : (b : Bool) → cond b new (st .card) .level < 32
+      go-level true = h .card .level
+      go-level false = h .card .level
+
+      go-event : (b : Bool) → cond b new (st .card) .event < 256
+      go-event true = h .card .event
+      go-event false = h .card .event
+
+  output-sound : (ch : Channel) (v : ℕ) → v < 65536 → ChannelSound ch → ChannelSound (outputTo ch v)
+  output-sound ch v i g =
+      record {
+        phase = g .phase;
+        level = g .level;
+        table = g .table;
+        scale = g .scale;
+        offset = g .offset;
+        shown = record { output = i; segment = g .shown .segment; left = g .shown .left; overflow = g .shown .overflow };
+      }
+
+  overflow-sound : (ch : Channel) → ChannelSound ch → ChannelSound (overflowCleared ch)
+  overflow-sound ch g =
+      record {
+        phase = g .phase;
+        level = g .level;
+        table = g .table;
+        scale = g .scale;
+        offset = g .offset;
+        shown = record { output = g .shown .output; segment = g .shown .segment; left = g .shown .left; overflow = omega arith };
+      }
+
+  stored-sound : (a v : ℕ) → v < 65536 → Passed (st .settings) (st .card) (registerOf a) v → Sound (performOf st a (Keep v))
+  stored-sound a v i p = record { settings = stored (st .settings) (h .settings) (st .card) a v i p; tables = h .tables; card = h .card }
+
+  done-sound : (r : Register) (a v : ℕ) → registerOf a ≡ r → v < 65536 → Passed (st .settings) (st .card) r v → Sound (performOf st a (effectOf r v))
+  done-sound (R.Setting s) a v e i p = stored-sound a v i (rw e p)
+  done-sound (R.Fixed s) a v e i p = h
+  done-sound (R.Output c) a v e i p = channel-sound c _ (output-sound (channelOf (st .card) c) v i (h .card .channels c))
+  done-sound (R.Status c f) a v e i p = h
+  done-sound (R.Overflow c) a v e i p = channel-sound c _ (overflow-sound (channelOf (st .card) c) (h .card .channels c))
+  done-sound (R.Slot l) a v e i p = stored-sound a v i (rw e p)
+  done-sound (R.Image n) a v e i p = h
+  done-sound R.Erase a v e i p = go (eqb v 1)
+    where
+      go : (b : Bool) → Sound (performOf st a (cond b Erase Nothing))
+      go true = record { settings = erased-words (st .settings) (h .settings); tables = h .tables; card = h .card }
+      go false = h
+  done-sound R.Manual a v e i p = let b = leb-true v 31 (p .value) in trigger-sound v 0xFE (omega arith) (omega arith)
+  done-sound R.ActiveLevel a v e i p = h
+  done-sound R.ActiveEvent a v e i p = h
+  done-sound (R.Count l) a v e i p = cleared-sound l
+  done-sound R.Unlisted a v e i p = h
+
+  word-sound : (a v : ℕ) → v < 65536 → Sound (writeWord st a v .state)
+  unfolding writeWord
+  word-sound a v i = go (judgeOf (st .settings) (st .card) (registerOf a) v) refl
+    where
+      go : (d : Verdict) → judgeOf (st .settings) (st .card) (registerOf a) v ≡ d → Sound (onVerdict d st a v .state)
+      go Accepted e = done-sound (registerOf a) a v refl i (passed (st .settings) (st .card) (registerOf a) v e)
+      go (Refused why) e = h
+
+-- ---- every call
+
+reset-sound : (s l : List ℕ) → length s ≡ 16960 → length l ≡ 512 → Sound (resetOf s l)
+unfolding tablesReset cardReset
+reset-sound s l p q =
+    record {
+      settings = reset-words s p;
+      tables = record { many = filled-length 512 l 0 0 ∙ q; small = λ i. small i (ltb i 512) refl };
+      card =
+          record {
+            four = refl;
+            channels = four-sound cardReset resetChannel resetChannel resetChannel resetChannel fresh fresh fresh fresh;
+            many = refl;
+            counts = λ j. counts j (ltb j 32) refl;
+            level = omega arith;
+            event = omega arith;
+          };
+    }
+  where
+    fresh : ChannelSound resetChannel
+    fresh =
+        record {
+          phase = tt;
+          level = omega arith;
+          table = omega arith;
+          scale = omega arith;
+          offset = omega arith;
+          shown = record { output = omega arith; segment = omega arith; left = omega arith; overflow = omega arith };
+        }
+
+    counts : (j : ℕ) (b : Bool) → ltb j 32 ≡ b → cond b (getD (replicate 32 0) j 0) 0 < 65536
+    counts j true e = rw (getD-replicate {A = ℕ} 32 j 0 0 (ltb-true j 32 e)) (omega arith)
+    counts j false e = omega arith
+
+    small : (i : ℕ) (b : Bool) → ltb i 512 ≡ b → word (tablesReset l) i < 65536
+    small i true e = let d = ltb-true i 512 e in rw (filled-in 512 l 0 0 i (omega arith) (omega arith) (omega arith)) (omega arith)
+    small i false e =
+        let d = ltb-false i 512 e in
+        rw (List·getD-eq-default (tablesReset l) 0 {n = i} (omega (arith, filled-length 512 l 0 0))) (omega arith)
+
+ticks-sound : (n : ℕ) (st : State) → Sound st → Sound (ticks n st)
+unfolding ticks
+ticks-sound zero st h = h
+ticks-sound (suc n) st h = ticks-sound n (advanced st) (advanced-sound st h)
+
+-- THE STATES THAT THE CARD COMES TO ARE SOUND
+pub reachable : Reachable
+reachable =
+    record {
+      reset = reset-sound;
+      tick = λ st event h. event-sound (advanced st) (advanced-sound st h) event;
+      ticks = ticks-sound;
+      write =
+          λ st start count ws w h. write-keeps Sound (λ v. v < 65536) st start count ws w
+          (λ q e x a v f g i p. word-sound x p a v i)
+          h;
+    }

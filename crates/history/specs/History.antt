@@ -1,0 +1,85 @@
+-- A history of the card: ticks with their events, transfers and resets, one after the other.
+use mathlib.Core.Path.{_≡_}
+use mathlib.Core.Bool.{Bool, true, false, cond}
+use mathlib.Core.List.{List, [], _∷_}
+use Prim.Native.Nat.{ℕ, zero, suc, _+_}
+use lib.Dec.{eqb}
+use lib.ListN.{take}
+use Rattle.slots.specs.declared.Holder.{Holder}
+use Rattle.slots.specs.declared.Holder.the-variants.{Level, Nobody}
+use Rattle.card.specs.Card.{State}
+use Rattle.card.specs.Trigger.{acceptedOf}
+use Rattle.card.specs.Tick.{tickWith}
+use Rattle.card.specs.Reset.{resetOf}
+use Rattle.transfer.specs.Transfer.{processedOf, writeOf}
+
+pub data Act : Type 0 where
+  -- a tick with its event, 0xFE if there is none
+  Tick : ℕ → Act
+  -- a transfer: start, count and words
+  Write : ℕ → ℕ → List ℕ → Act
+  Read : ℕ → ℕ → List ℕ → Act
+  Reset : Act
+
+abbrev pub act : State → Act → State
+act st (Tick event) = tickWith st event
+act st (Write start count ws) = writeOf st start count ws .state
+-- 'a read has no other effect': `readOf` answers with words alone
+act st (Read start count ws) = st
+act st Reset = resetOf (st .settings) (st .tables)
+
+abbrev pub acts : State → List Act → State
+acts st [] = st
+acts st (x ∷ xs) = acts (act st x) xs
+
+-- ---- triggers
+
+-- the words that a write does
+abbrev pub wordsDone : State → ℕ → ℕ → List ℕ → List ℕ
+wordsDone st start count ws = take (processedOf (writeOf st start count ws .answer)) ws
+
+-- the level written at 0x4202 by words done from address a on
+abbrev pub manualAmong : ℕ → List ℕ → Holder
+manualAmong a [] = Nobody
+manualAmong a (v ∷ vs) = cond (eqb a 0x4202) (Level v) (manualAmong (a + 1) vs)
+
+-- the level of the accepted trigger that an act is: 'an event .. is an accepted trigger of L; so is every word done at 0x4202'
+abbrev pub triggerBy : State → Act → Holder
+triggerBy st (Tick event) = acceptedOf (st .settings) event
+triggerBy st (Write start count ws) = manualAmong start (wordsDone st start count ws)
+triggerBy st (Read start count ws) = Nobody
+triggerBy st Reset = Nobody
+
+abbrev pub isReset : Act → Bool
+isReset (Tick event) = false
+isReset (Write start count ws) = false
+isReset (Read start count ws) = false
+isReset Reset = true
+
+-- 'with no trigger accepted and no reset'
+pub record Calm (st : State) (x : Act) : Type 0 where
+  pub noTrigger : triggerBy st x ≡ Nobody
+  pub noReset : isReset x ≡ false
+
+abbrev pub Quiet : State → List Act → Type 0
+Quiet st [] = Unit
+Quiet st (x ∷ xs) = Calm st x × Quiet (act st x) xs
+
+-- ---- ticks
+
+abbrev pub ticksIn : List Act → ℕ
+ticksIn [] = 0
+ticksIn (Tick event ∷ xs) = suc (ticksIn xs)
+ticksIn (Write start count ws ∷ xs) = ticksIn xs
+ticksIn (Read start count ws ∷ xs) = ticksIn xs
+ticksIn (Reset ∷ xs) = ticksIn xs
+
+-- the acts before the n-th tick; none before the 0-th, which is the trigger
+abbrev pub until : ℕ → List Act → List Act
+until zero xs = []
+until (suc n) [] = []
+until (suc zero) (Tick event ∷ xs) = []
+until (suc (suc n)) (Tick event ∷ xs) = Tick event ∷ until (suc n) xs
+until (suc n) (Write start count ws ∷ xs) = Write start count ws ∷ until (suc n) xs
+until (suc n) (Read start count ws ∷ xs) = Read start count ws ∷ until (suc n) xs
+until (suc n) (Reset ∷ xs) = Reset ∷ until (suc n) xs

@@ -1,0 +1,4 @@
+pub mod Frame
+pub mod Sound
+pub mod History
+pub mod Demand3

@@ -1,0 +1,127 @@
+-- The states that the card comes to: what a reset makes, and every call keeps.
+use mathlib.Core.Path.{_≡_}
+use mathlib.Core.Bool.{Bool, true, false}
+use mathlib.Core.List.{List, [], _∷_}
+use Prim.Native.Nat.{ℕ, _+_, _≤_, _<_}
+use lib.ListN.{length}
+use Rattle.map.specs.declared.Register.{Register}
+use Rattle.map.specs.declared.Register.the-variants as R
+use Rattle.map.specs.Map.{registerOf, acceptedAt}
+use Rattle.map.specs.Addresses.{tableAt, scaleAt, offsetAt}
+use Rattle.slots.specs.Slots.{OneLevel}
+use Rattle.word.specs.declared.Micros.{Micros}
+use Rattle.channel.specs.declared.Place.{Place}
+use Rattle.channel.specs.declared.Shown.{Shown}
+use Rattle.channel.specs.declared.Ramp.{Ramp}
+use Rattle.channel.specs.declared.Ramp.the-variants.{Still, Going}
+use Rattle.channel.specs.declared.Phase.{Phase}
+use Rattle.channel.specs.declared.Phase.the-variants.{Rest, Counting, Running}
+use Rattle.channel.specs.declared.Channel.{Channel}
+use Rattle.channel.specs.Channel.{word}
+use Rattle.card.specs.declared.Card.{Card}
+use Rattle.card.specs.Card.{State, channelOf, countOf}
+use Rattle.card.specs.Tick.{tickWith, ticks}
+use Rattle.card.specs.Reset.{resetOf}
+use Rattle.transfer.specs.Transfer.{writeOf}
+
+-- 'settings are the RW words except A04, A39 and the level counts'
+abbrev pub isSetting : Register → Bool
+isSetting (R.Setting s) = true
+isSetting (R.Fixed s) = true
+isSetting (R.Output c) = false
+isSetting (R.Status c f) = false
+isSetting (R.Overflow c) = false
+isSetting (R.Slot l) = true
+isSetting (R.Image e) = false
+isSetting R.Erase = false
+isSetting R.Manual = false
+isSetting R.ActiveLevel = false
+isSetting R.ActiveEvent = false
+isSetting (R.Count l) = false
+isSetting R.Unlisted = false
+
+-- the settings, by address
+pub record Words (s : List ℕ) : Type 0 where
+  pub many : length s ≡ 16960
+  -- 'words have 16 bits'
+  pub small : (a : ℕ) → word s a < 65536
+  -- a setting holds a word that its address accepts
+  pub accepted : (a : ℕ) → isSetting (registerOf a) ≡ true → acceptedAt a (word s a) ≡ true
+  -- 'table 0 fixed', 'entry 0 fixed'
+  pub table0 : (c i : ℕ) → c < 4 → i < 128 → word s (tableAt c 0 + i) ≡ 0
+  pub scale0 : (c : ℕ) → c < 4 → word s (scaleAt c 0) ≡ 0x0100
+  pub offset0 : (c : ℕ) → c < 4 → word s (offsetAt c 0) ≡ 0
+  -- no event but 0xFE is held by two levels
+  pub one : OneLevel s
+
+-- the loaded tables
+pub record Tables (l : List ℕ) : Type 0 where
+  pub many : length l ≡ 512
+  pub small : (i : ℕ) → word l i < 65536
+
+-- ---- a channel
+
+-- a ramp on its way: in a segment before point 63, with samples left in it, the next of them within 10 microseconds
+pub record OnItsWay (p : Place) (t : Micros) : Type 0 where
+  pub inner : p .segment < 63
+  pub left : 1 ≤ p .left .0
+  pub small : p .left .0 < 65536
+  pub wait : 1 ≤ t .0
+  pub soon : t .0 ≤ 10
+
+abbrev pub RampSound : Ramp → Type 0
+RampSound Still = Unit
+RampSound (Going p t) = OnItsWay p t
+
+-- a countdown; from the load on, 10 microseconds before the start, no older ramp runs
+pub record Countdown (n : ℕ) (older : Ramp) : Type 0 where
+  pub some : 1 ≤ n
+  pub small : n < 65536
+  pub alone : n ≤ 10 → older ≡ Still
+  pub ramp : RampSound older
+
+abbrev pub PhaseSound : Phase → Type 0
+PhaseSound Rest = Unit
+PhaseSound (Counting n older) = Countdown (n .0) older
+PhaseSound (Running p t) = OnItsWay p t
+
+pub record ShownSound (s : Shown) : Type 0 where
+  pub output : s .output < 65536
+  pub segment : s .place .segment ≤ 63
+  pub left : s .place .left .0 < 65536
+  pub overflow : s .overflow < 65536
+
+pub record ChannelSound (ch : Channel) : Type 0 where
+  pub phase : PhaseSound (ch .phase)
+  pub level : ch .level < 32
+  pub table : ch .loaded .table ≤ 15
+  pub scale : ch .loaded .scale < 65536
+  pub offset : ch .loaded .offset < 65536
+  pub shown : ShownSound (ch .shown)
+
+-- ---- the card
+
+pub record CardSound (k : Card) : Type 0 where
+  pub four : length (k .channels) ≡ 4
+  pub channels : (c : ℕ) → ChannelSound (channelOf k c)
+  pub many : length (k .counts) ≡ 32
+  pub counts : (level : ℕ) → countOf k level < 65536
+  pub level : k .level < 32
+  pub event : k .event < 256
+
+pub record Sound (st : State) : Type 0 where
+  pub settings : Words (st .settings)
+  pub tables : Tables (st .tables)
+  pub card : CardSound (st .card)
+
+-- a rule of every word of a list
+abbrev pub Each : (ℕ → Type 0) → List ℕ → Type 0
+Each Q [] = Unit
+Each Q (v ∷ vs) = Q v × Each Q vs
+
+-- a reset makes it, of any lent lists of the card's lengths; a tick with any event, any ticks, and any write keep it
+pub record Reachable : Type 0 where
+  pub reset : (s l : List ℕ) → length s ≡ 16960 → length l ≡ 512 → Sound (resetOf s l)
+  pub tick : (st : State) (event : ℕ) → Sound st → Sound (tickWith st event)
+  pub ticks : (n : ℕ) (st : State) → Sound st → Sound (ticks n st)
+  pub write : (st : State) (start count : ℕ) (ws : List ℕ) → Each (λ v. v < 65536) ws → Sound st → Sound (writeOf st start count ws .state)
