@@ -1,8 +1,8 @@
 -- Frames by their name, the bounds on what they carry, and what a frame does to the card. Assumes nothing.
 use mathlib.Core.Path.{_≡_, _∙_, ap, sym, refl, subst}
 use mathlib.Core.Bool.{Bool, true, false, cond}
-use mathlib.Core.List.{List, []}
-use Prim.Native.Nat.{ℕ, zero, suc, _+_, _*_, _-_, _/_, _≤_}
+use mathlib.Core.List.{List}
+use Prim.Native.Nat.{ℕ, zero, suc, _+_, _*_, _≤_}
 use native.Mathlib.Omega.{arith}
 use borrow.Author.Tests.{leb-true}
 use lib.Dec.{leb, eqb, ltb}
@@ -15,13 +15,13 @@ use Rattle.slots.specs.declared.Holder.{Holder}
 use Rattle.slots.specs.declared.Holder.the-variants.{Level, Nobody}
 use Rattle.card.specs.declared.Card.{Card}
 use Rattle.card.specs.Card.{State, state}
-use Rattle.card.specs.Trigger.{triggerOf, acceptedOf, onEvent, eventOf}
+use Rattle.card.specs.Trigger.{triggerOf, acceptedOf, onEvent}
 use Rattle.card.specs.Tick.{advanced, tickWith}
 use Rattle.card.proofs.Ticks.{same-state}
 use Rattle.transfer.specs.declared.Answer.{Answer}
 use Rattle.transfer.specs.declared.Written.{Written}
 use Rattle.transfer.specs.Word.{readWord}
-use Rattle.transfer.specs.Transfer.{Out, Filled, filled, numberOf, processedOf, written, writeOf, readWords, readIn, readOf, badCount, readable}
+use Rattle.transfer.specs.Transfer.{Out, Filled, numberOf, processedOf, written, writeOf, readWords, readIn, readOf, badCount, readable}
 use Rattle.line.specs.declared.Frame.{Frame}
 use Rattle.line.specs.declared.Frame.the-variants.{Write, Read, Ticks, Event, Bad}
 use Rattle.line.specs.Frame.{allDigits, byteAt, wordAt, wordsIn, named, frameOf, writeFrame, readFrame, ticksFrame, eventFrame}

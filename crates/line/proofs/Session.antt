@@ -9,7 +9,7 @@ use native.Mathlib.Omega.{arith}
 use borrow.Author.Tests.{eq-eqb, ne-eqb, eqb-true, ltb-true, ltb-false, le-leb, lt-leb}
 use lib.Dec.{eqb, ltb, leb}
 use lib.ListN.{length, set, take, drop, replicate, length-append, length-set, length-take, length-drop}
-use lib.Seq.{take-suc-set, take-all, take-append-le, take-add, length-take-le}
+use lib.Seq.{take-suc-set, take-all, take-append-le, length-take-le}
 use Rattle.card.specs.declared.Card.{Card}
 use Rattle.card.specs.Card.{State, state}
 use Rattle.card.specs.Reset.{resetOf}
@@ -19,11 +19,11 @@ use Rattle.line.specs.declared.Frame.{Frame}
 use Rattle.line.specs.declared.Frame.the-variants.{Write, Read, Ticks, Event, Bad}
 use Rattle.line.specs.declared.Stream.{Stream}
 use Rattle.line.specs.Frame.{allDigits, byteAt, wordAt, wordsIn, wordsOf, frameOf, writeFrame, readFrame, ticksFrame, eventFrame}
-use Rattle.line.specs.Answer.{digitOf, hex2, hex4, hexAll, headOf, outputsOf, outputsText, Step, onFrame, stepOf}
-use Rattle.line.specs.Session.{linesFrom, linesOf, answersOf, session, Flow, flow, bare, after, most, longest, ended, kept, byteOf, feedOf, takenOf, finishOf, Feeds, Fed, Finished, serveOf, writtenOf, joined, endsIn}
+use Rattle.line.specs.Answer.{hex2, hex4, hexAll, headOf, outputsOf, outputsText, Step, onFrame, stepOf}
+use Rattle.line.specs.Session.{linesFrom, linesOf, answersOf, session, Flow, flow, bare, after, most, longest, ended, kept, byteOf, feedOf, takenOf, finishOf, Feeds, streamOf, Fed, Finished, serveOf, writtenOf, joined, endsIn}
 use Rattle.line.proofs.Digits.{take-sets}
 use Rattle.line.proofs.Frames.{step-is}
-use Rattle.line.proofs.Flows.{kept-is, feed-append, feed-after, taken-most, taken-some}
+use Rattle.line.proofs.Flows.{kept-is, feed-append, feed-after, taken-some}
 
 -- ---- a line that is too long is no frame, and no more of it than 263 bytes is looked at
 
@@ -283,9 +283,6 @@ pub answers-in-front : (d : Flow) {before after settings tables line : List ℕ}
     → Feeds d 0 before after settings tables line k held end → end ≤ length before → take end after ≡ d .text
 answers-in-front d {before} {end = end} f h = ap (take end) (f .buffer) ∙ take-sets before (d .text) end (omega (arith, f .ends)) h
 
-abbrev made : Card → ℕ → ℕ → ℕ → Stream
-made k h e n = record { card = k; held = h; end = e; taken = n }
-
 -- any two outcomes that a promise allows are the same: buffer, settings, tables, line, and the answer
 feeds-once : (d : Flow) (at : ℕ) (before a a′ s s′ l l′ n n′ : List ℕ) (r r′ : Stream)
     → Feeds d at before a s l n (r .card) (r .held) (r .end) → Feeds d at before a′ s′ l′ n′ (r′ .card) (r′ .held) (r′ .end) → r .taken ≡ r′ .taken
@@ -299,9 +296,9 @@ feeds-once d at before a a′ s s′ l l′ n n′ r r′ f g t =
       ap (λ (x : State). x .settings) w,
       ap (λ (x : State). x .tables) w,
       f .lined ∙ sym (g .lined),
-      ap (λ (x : Card). made x (r .held) (r .end) (r .taken)) c ∙ ap (λ (x : ℕ). made (r′ .card) x (r .end) (r .taken)) h
-          ∙ ap (λ (x : ℕ). made (r′ .card) (r′ .held) x (r .taken)) e
-          ∙ ap (λ (x : ℕ). made (r′ .card) (r′ .held) (r′ .end) x) t,
+      ap (λ (x : Card). streamOf x (r .held) (r .end) (r .taken)) c ∙ ap (λ (x : ℕ). streamOf (r′ .card) x (r .end) (r .taken)) h
+          ∙ ap (λ (x : ℕ). streamOf (r′ .card) (r′ .held) x (r .taken)) e
+          ∙ ap (λ (x : ℕ). streamOf (r′ .card) (r′ .held) (r′ .end) x) t,
     )
 
 pub fed-once : (t : Flow) (chunk before a a′ s s′ l l′ n n′ : List ℕ) (r r′ : Stream)

@@ -15,17 +15,21 @@ use Rattle.line.specs.declared.Frame.the-variants.{Write, Read, Ticks, E
 use Rattle.line.specs.declared.Answered.{Answered}
 use Rattle.line.specs.Frame.{wordsOf, frameOf}
 
--- ---- digits written: one, two, four, and those of words one after the other
+-- ---- digits written
 
+-- the digit of a number below 16
 abbrev pub digitOf : ℕ → ℕ
 digitOf n = cond (ltb n 10) (48 + n) (55 + n)
 
+-- '2 digits'
 unfoldable pub hex2 : ℕ → List ℕ
 hex2 x = digitOf (x / 16 % 16) ∷ digitOf (x % 16) ∷ []
 
+-- '4 digits'
 unfoldable pub hex4 : ℕ → List ℕ
 hex4 x = hex2 (x / 256) ++ hex2 x
 
+-- the digits of words, one after the other
 unfoldable pub hexAll : List ℕ → List ℕ
 hexAll [] = []
 hexAll (w ∷ ws) = hex4 w ++ hexAll ws
@@ -44,6 +48,7 @@ readText f = headOf 0x82 (numberOf (f .answer)) (processedOf (f .answer)) ++ hex
 abbrev pub outputsOf : Card → List ℕ
 outputsOf k = channelOf k 0 .shown .output ∷ channelOf k 1 .shown .output ∷ channelOf k 2 .shown .output ∷ channelOf k 3 .shown .output ∷ []
 
+-- the name, and the four outputs
 unfoldable pub outputsText : ℕ → Card → List ℕ
 outputsText name k = hex2 name ++ hexAll (outputsOf k)
 
@@ -71,6 +76,7 @@ onFrame st s (Ticks n) = ticked 0x83 (ticks n st)
 onFrame st s (Event e) = ticked 0x84 (tickWith st e)
 onFrame st s Bad = step st (hex2 0xFF)
 
+-- what a line does
 unfoldable pub stepOf : State → List ℕ → Step
 stepOf st s = onFrame st s (frameOf s)
 

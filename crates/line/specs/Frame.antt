@@ -1,5 +1,5 @@
 -- 'One frame a line': what a line of bytes says, and the words of a write.
-use mathlib.Core.Bool.{Bool, true, false, _&&_, _||_, cond}
+use mathlib.Core.Bool.{Bool, true, _&&_, _||_, cond}
 use mathlib.Core.List.{List, [], _∷_, _++_}
 use Prim.Native.Nat.{ℕ, zero, suc, _+_, _*_, _-_, _/_}
 use lib.Dec.{leb, eqb}
@@ -9,6 +9,7 @@ use Rattle.line.specs.declared.Frame.the-variants.{Write, Read, Ticks, E
 
 -- ---- 'hexadecimal (0-9, A-F)'
 
+-- a byte from lo to hi
 abbrev pub inside : ℕ → ℕ → ℕ → Bool
 inside lo hi b = leb lo b && leb b hi
 
@@ -20,6 +21,7 @@ isDigit b = inside 48 57 b || inside 65 70 b
 abbrev pub valueOf : ℕ → ℕ
 valueOf b = cond (inside 48 57 b) (b - 48) (cond (inside 65 70 b) (b - 55) 0)
 
+-- a line of digits alone
 unfoldable pub allDigits : List ℕ → Bool
 allDigits [] = true
 allDigits (b ∷ s) = isDigit b && allDigits s

@@ -10,7 +10,7 @@ use Rattle.card.specs.declared.Card.{Card}
 use Rattle.card.specs.Card.{State, state}
 use Rattle.card.specs.Reset.{resetOf}
 use Rattle.line.specs.declared.Stream.{Stream}
-use Rattle.line.specs.Answer.{Step, stepOf}
+use Rattle.line.specs.Answer.{stepOf}
 
 -- ---- the session
 
@@ -20,6 +20,7 @@ linesFrom [] [] = []
 linesFrom (a ∷ p) [] = (a ∷ p) ∷ []
 linesFrom p (b ∷ s) = cond (eqb b 10) (p ∷ linesFrom [] s) (linesFrom (p ++ b ∷ []) s)
 
+-- a final LF opens no further line, and no input has no line
 abbrev pub linesOf : List ℕ → List (List ℕ)
 linesOf input = linesFrom [] input
 
@@ -44,10 +45,11 @@ pub record Flow : Type 0 where
 abbrev pub flow : State → List ℕ → ℕ → List ℕ → Flow
 flow st l h x = record { state = st; line = l; held = h; text = x }
 
--- the same with no answers given yet, and with the answers x before its own
+-- the same with no answers given yet
 abbrev pub bare : Flow → Flow
 bare t = flow (t .state) (t .line) (t .held) []
 
+-- the same with the answers x before its own
 abbrev pub after : List ℕ → Flow → Flow
 after x t = flow (t .state) (t .line) (t .held) (x ++ t .text)
 
@@ -75,9 +77,11 @@ ended t =
 unfoldable pub kept : Flow → ℕ → Flow
 kept t b = cond (ltb (t .held) most) (flow (t .state) (set (t .line) (t .held) b) (t .held + 1) (t .text)) t
 
+-- one byte: LF ends the line
 unfoldable pub byteOf : Flow → ℕ → Flow
 byteOf t b = cond (eqb b 10) (ended t) (kept t b)
 
+-- bytes one after the other
 unfoldable pub feedOf : Flow → List ℕ → Flow
 feedOf t [] = t
 feedOf t (b ∷ s) = feedOf (byteOf t b) s
@@ -101,6 +105,10 @@ pub record Feeds (d : Flow) (at : ℕ) (before after settings tables line : List
   pub atMost : held ≤ most
   pub buffer : after ≡ sets before at (d .text)
   pub ends : end ≡ at + length (d .text)
+
+-- what a call hands back
+abbrev pub streamOf : Card → ℕ → ℕ → ℕ → Stream
+streamOf k held end taken = record { card = k; held = held; end = end; taken = taken }
 
 -- a chunk: what is taken of it is fed, and its answers stand at the front of the buffer
 pub record Fed (t : Flow) (chunk before after settings tables line : List ℕ) (r : Stream) : Type 0 where
@@ -132,6 +140,7 @@ unfoldable pub writtenOf : ℕ → Flow → List (List ℕ) → List ℕ
 writtenOf room t [] = t .text ++ finishOf room (bare t) .text
 writtenOf room t (c ∷ cs) = writtenOf room (serveOf (length c) room t c) cs
 
+-- the whole input
 unfoldable pub joined : List (List ℕ) → List ℕ
 joined [] = []
 joined (c ∷ cs) = c ++ joined cs

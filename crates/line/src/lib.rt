@@ -10,7 +10,7 @@ ghost use Rattle.card.specs.Reset.{settingsReset, tablesReset, cardReset};
 ghost use Rattle.transfer.specs.Transfer.{readOf};
 ghost use Rattle.line.specs.Frame.{isDigit, valueOf, allDigits, byteAt, wordAt, wordsOf, frameOf, writeFrame, readFrame, ticksFrame, eventFrame};
 ghost use Rattle.line.specs.Answer.{digitOf, hex2, hex4, hexAll, headOf, readText, outputsOf, outputsText, onFrame, stepOf, Puts, Answers};
-ghost use Rattle.line.specs.Session.{opened, ended, flow, Feeds, Fed, Finished, Keeps};
+ghost use Rattle.line.specs.Session.{streamOf, opened, ended, flow, Feeds, Fed, Finished, Keeps};
 
 // What a line says.
 pub enum Frame {
@@ -61,12 +61,7 @@ pub fn feed(
     let mut i: usize = 0;
     while i < chunk.len() {
         if out.len() < end + 265 {
-            return Stream {
-                card: k,
-                held: h,
-                end: end,
-                taken: i,
-            };
+            return reached(k, h, end, i);
         }
         let b = chunk[i];
         i = i + 1;
@@ -79,12 +74,7 @@ pub fn feed(
             h = keep(line, h, b);
         }
     }
-    Stream {
-        card: k,
-        held: h,
-        end: end,
-        taken: i,
-    }
+    reached(k, h, end, i)
 }
 
 // The end of the input: a line that has begun is answered, if `out` has room for it.
@@ -100,19 +90,13 @@ pub fn finish(
 {
     let h = least(held, 263);
     if h == 0 {
-        return unanswered(card, h);
+        return reached(card, h, 0, 0);
     }
     if out.len() < 265 {
-        return unanswered(card, h);
+        return reached(card, h, 0, 0);
     }
     let a = end_line(settings, tables, line, out, card, h, 0);
-    let k = a.card;
-    Stream {
-        card: k,
-        held: 0,
-        end: a.end,
-        taken: 0,
-    }
+    reached(a.card, 0, a.end, 0)
 }
 
 // The frame that a line is: its first byte names it.
@@ -133,15 +117,15 @@ pub fn parse(s: &[u8]) -> Frame
 
 // ---- the stream
 
-// Nothing is answered.
-fn unanswered(card: Card, held: usize) -> Stream
-    ensures { λ r. ⌜ (r .card ≡ card) × (r .held ≡ held) × (r .end ≡ 0) × (r .taken ≡ 0) ⌝ }
+// What a call hands back.
+fn reached(card: Card, held: usize, end: usize, taken: usize) -> Stream
+    ensures { λ r. ⌜ r ≡ streamOf card held end taken ⌝ }
 {
     Stream {
         card: card,
         held: held,
-        end: 0,
-        taken: 0,
+        end: end,
+        taken: taken,
     }
 }
 
@@ -183,6 +167,7 @@ fn keep(line: &mut [u8], held: usize, b: u8) -> usize
     }
 }
 
+// The smaller of two.
 fn least(a: usize, b: usize) -> usize
     ensures { λ r. ⌜ (r ≡ min a b) × (r ≤ a) × (r ≤ b) ⌝ }
 {
@@ -344,6 +329,7 @@ fn outputs(card: Card) -> [u16; 4]
     ]
 }
 
+// One channel's output.
 fn output(card: Card, c: usize) -> u16
     ensures { λ r. ⌜ r ≡ channelOf card c .shown .output ⌝ }
 {
@@ -391,6 +377,7 @@ fn put2(out: &mut [u8], at: usize, x: usize)
     put(out, at + 1, digit(x % 16));
 }
 
+// The digit of a number below 16.
 fn digit(n: usize) -> u8
     requires { ⌜ n < 16 ⌝ }
     ensures { λ r. ⌜ r ≡ digitOf n ⌝ }
@@ -488,6 +475,7 @@ fn words(s: &[u8], n: usize, words: &mut [u16; 64])
 
 // ---- digits
 
+// Every byte is a digit.
 fn all_digits(s: &[u8]) -> bool
     ensures { λ r. ⌜ r ≡ allDigits (now (s .entry)) ⌝ }
 {
@@ -528,6 +516,7 @@ fn is_digit(b: u8) -> bool
     }
 }
 
+// A digit's value.
 fn value(b: u8) -> u16
     ensures { λ r. ⌜ (r ≡ valueOf b) × (r < 16) ⌝ }
 {
@@ -545,6 +534,7 @@ fn get(s: &[u8], i: usize) -> u8
     if i < s.len() { s[i] } else { 0 }
 }
 
+// The same number.
 fn wide(x: u16) -> usize
     ensures { λ r. ⌜ r ≡ x ⌝ }
 {

@@ -16,6 +16,7 @@ struct Turn {
     more: bool,
 }
 
+// The lent words and buffers, and the session on them.
 fn main() {
     let mut settings = [0u16; 16960];
     let mut tables = [0u16; 512];
@@ -152,6 +153,7 @@ fn read_some(chunk: &mut [u8]) -> isize {
     libc::read(STDIN_FILENO, chunk)
 }
 
+// A word on standard error.
 fn complain(words: &[u8]) {
     io::write_all(STDERR_FILENO, words);
 }

@@ -2,13 +2,12 @@
 -- and what is taken of the chunk is i and what is taken from there. The measure is what is left of the chunk. Assumes nothing.
 use borrow.Author.Needs.{needs}
 use mathlib.Core.Path.{_≡_, refl, sym, _∙_}
-use mathlib.Core.List.{List, []}
+use mathlib.Core.List.{[]}
 use Prim.Native.Nat.{ℕ, _≤_, _-_, _+_}
 use native.Mathlib.Nat.{zero-add}
 use native.Mathlib.Omega.{arith}
 use lib.ListN.{length, take, drop, getD}
-use lib.Seq.{take-all}
-use Rattle.card.specs.Card.{State, state}
+use Rattle.card.specs.Card.{state}
 use Rattle.line.specs.Session.{Flow, flow, opened, feedOf, takenOf, Feeds}
 use Rattle.line.proofs.Flows.{byte-ends, keeps-feeds, feed-more, feeds-more, taken-none, taken-stop, taken-turn}
 use Rattle.line.proofs.feed.Statement.{statement}
@@ -43,14 +42,17 @@ same-length-3 c = search needs
 same-length-4 : tie.Need-same-length-4 Inv-loop μ-loop
 same-length-4 c = search needs
 
+reached-requires : tie.Need-reached-requires Inv-loop μ-loop
+reached-requires c κs = search needs
+
 returns : tie.Need-returns Inv-loop μ-loop
 returns c =
-    let l = c .before .before .loop in
-    let a = c .before .before .before .before .before .before .before .before .before .args in
+    let l = c .before .before .before .loop in
+    let a = c .before .before .before .before .before .before .before .before .before .before .args in
     let t : Flow = opened (a .card) (a .settings .now) (a .tables .now) (a .line .now) (a .held) in
-    let b : ℕ = getD (a .chunk .now) (l .i) 0 in
     let u : Flow = feedOf t (take (l .i) (a .chunk .now)) in
-    record { took = omega (arith, l .inv .4, taken-stop (length (a .out .now)) u (a .chunk .now) (l .i) (c .before .loop-test .taken) (omega (arith, l .inv .1 .ends, l .inv .3, c .if1 .taken))); feeds = l .inv .1; fits = l .inv .2 }
+    rw (c .reached .ensures)
+    (record { took = omega (arith, l .inv .4, taken-stop (length (a .out .now)) u (a .chunk .now) (l .i) (c .before .before .loop-test .taken) (omega (arith, l .inv .1 .ends, l .inv .3, c .before .if1 .taken))); feeds = l .inv .1; fits = l .inv .2 })
 
 shared-slice-read-b : tie.Need-shared-slice-read-b Inv-loop μ-loop
 shared-slice-read-b c = search needs
@@ -105,14 +107,17 @@ same-length-7 c = search needs
 same-length-8 : tie.Need-same-length-8 Inv-loop μ-loop
 same-length-8 c = search needs
 
+reached-requires-2 : tie.Need-reached-requires-2 Inv-loop μ-loop
+reached-requires-2 c κs = search needs
+
 returns-2 : tie.Need-returns-2 Inv-loop μ-loop
 returns-2 c =
-    let l = c .before .loop in
-    let a = c .before .before .before .before .before .before .before .before .args in
+    let l = c .before .before .loop in
+    let a = c .before .before .before .before .before .before .before .before .before .args in
     let t : Flow = opened (a .card) (a .settings .now) (a .tables .now) (a .line .now) (a .held) in
-    let b : ℕ = getD (a .chunk .now) (l .i) 0 in
     let u : Flow = feedOf t (take (l .i) (a .chunk .now)) in
-    record { took = omega (arith, l .inv .4, taken-none (length (a .out .now)) u (a .chunk .now) (l .i) (c .loop-test .left)); feeds = l .inv .1; fits = l .inv .2 }
+    rw (c .reached2 .ensures)
+    (record { took = omega (arith, l .inv .4, taken-none (length (a .out .now)) u (a .chunk .now) (l .i) (c .before .loop-test .left)); feeds = l .inv .1; fits = l .inv .2 })
 
 pub feed-spec : {M : Type 1} → statement M
 feed-spec =
@@ -123,6 +128,7 @@ feed-spec =
     least-requires
     loop-holds
     add-if1
+    reached-requires
     same-length
     same-length-2
     same-length-3
@@ -136,6 +142,7 @@ feed-spec =
     keep-requires
     loop-less-2
     loop-again-2
+    reached-requires-2
     same-length-5
     same-length-6
     same-length-7

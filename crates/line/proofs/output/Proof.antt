@@ -1,6 +1,5 @@
 -- `line::output` meets its contract. Assumes nothing.
 use borrow.Author.Needs.{needs}
-use mathlib.Core.Path.{ap}
 use Rattle.line.proofs.output.Statement.{statement}
 use Rattle.line.proofs.output.Tie as tie
 
