@@ -219,7 +219,7 @@ module _ (c : ℕ) (inside : c < 4) (st : State) (four : length (st .card .chann
   effect-part R.Unlisted a v n p = nothing c st four
 
 -- no word done at 0x4202: the first is elsewhere, and so are the others
-none-first : (a v : ℕ) (vs : List ℕ) → manualAmong a (v ∷ vs) ≡ Nobody → (a ≡ 0x4202 → ⊥) × (manualAmong (a + 1) vs ≡ Nobody)
+pub none-first : (a v : ℕ) (vs : List ℕ) → manualAmong a (v ∷ vs) ≡ Nobody → (a ≡ 0x4202 → ⊥) × (manualAmong (a + 1) vs ≡ Nobody)
 none-first a v vs = go (eqb a 0x4202) refl
   where
     go : (b : Bool) → eqb a 0x4202 ≡ b → cond b (Level v) (manualAmong (a + 1) vs) ≡ Nobody → (a ≡ 0x4202 → ⊥) × (manualAmong (a + 1) vs ≡ Nobody)

@@ -10,3 +10,5 @@ pub mod Turns
 pub mod Done
 pub mod Manual
 pub mod Demand3
+pub mod Counts
+pub mod Settings

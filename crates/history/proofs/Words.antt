@@ -68,7 +68,7 @@ set-word P s a v b p q = go (eqb b a) refl (leb (length s) a) refl
     go false e y f = rw (getD-set-other s a b v 0 (eqb-false b a e)) q
 
 -- the word of the fill in its places, and the old one elsewhere
-fill-word : (P : ℕ → Type 0) (n : ℕ) (s : List ℕ) (first w at : ℕ) → (first ≤ at → at < first + n → P w)
+pub fill-word : (P : ℕ → Type 0) (n : ℕ) (s : List ℕ) (first w at : ℕ) → (first ≤ at → at < first + n → P w)
     → ((first ≤ at → at < first + n → at < length s → ⊥) → P (word s at)) → P (word (filled n s first w) at)
 fill-word P n s first w at p q = go (leb first at) refl (ltb at (first + n)) refl (ltb at (length s)) refl
   where
@@ -85,12 +85,12 @@ fill-word P n s first w at p q = go (leb first at) refl (ltb at (first + n)) ref
     go true e true f false g = out (λ i j k. absurd (omega (arith, ltb-false at (length s) g)))
 
 -- an address among channel c's scale factors
-abbrev InScales : ℕ → ℕ → Type 0
+abbrev pub InScales : ℕ → ℕ → Type 0
 InScales c at = (scaleAt c 0 ≤ at) × (at < scaleAt c 0 + 32)
 
 -- after a reset a slot has 0xFE, a scale factor 0x0100, and any other word is 0
 pub reset-word : (P : ℕ → Type 0) (s : List ℕ) (at : ℕ) → length s ≡ 16960 → (0x4000 ≤ at → at < 0x4100 → P 0xFE)
-    → ((c : ℕ) → c < 4 → InScales c at → P 0x0100) → (((c : ℕ) → c < 4 → InScales c at → ⊥) → P 0) → P (word (settingsReset s) at)
+    → ((c : ℕ) → c < 4 → InScales c at → P 0x0100) → ((0x4000 ≤ at → at < 0x4100 → ⊥) → ((c : ℕ) → c < 4 → InScales c at → ⊥) → P 0) → P (word (settingsReset s) at)
 unfolding settingsReset
 reset-word P s at l p q r =
     fill-word P 256 s4 0x4000 0xFE at (λ f g. p f g)
@@ -99,7 +99,7 @@ reset-word P s at l p q r =
     (λ h2. fill-word P 32 s1 (scaleAt 1 0) 0x0100 at (λ f g. q 1 (omega arith) (f, g))
     (λ h1. fill-word P 32 s0 (scaleAt 0 0) 0x0100 at (λ f g. q 0 (omega arith) (f, g))
     (λ h0. let none : (c : ℕ) → c < 4 → InScales c at → ⊥ = λ c i j. none-of h0 h1 h2 h3 c i j in
-    fill-word P 16960 s 0 0 at (λ f g. r none) (λ o. let g : length s ≤ at = past o in rw (List·getD-eq-default s 0 {n = at} g) (r none)))))))
+    fill-word P 16960 s 0 0 at (λ f g. r (off h) none) (λ o. let g : length s ≤ at = past o in rw (List·getD-eq-default s 0 {n = at} g) (r (off h) none)))))))
   where
     s0 : List ℕ
     s0 = filled 16960 s 0 0
@@ -134,6 +134,12 @@ reset-word P s at l p q r =
 
     l3 : length s3 ≡ 16960
     l3 = filled-length 32 s2 (scaleAt 2 0) 0x0100 ∙ l2
+
+    l4 : length s4 ≡ 16960
+    l4 = filled-length 32 s3 (scaleAt 3 0) 0x0100 ∙ l3
+
+    off : (0x4000 ≤ at → at < 0x4000 + 256 → at < length s4 → ⊥) → 0x4000 ≤ at → at < 0x4100 → ⊥
+    off h f g = h f g (omega (arith, l4))
 
     none-of : (scaleAt 0 0 ≤ at → at < scaleAt 0 0 + 32 → at < length s0 → ⊥) → (scaleAt 1 0 ≤ at → at < scaleAt 1 0 + 32 → at < length s1 → ⊥)
         → (scaleAt 2 0 ≤ at → at < scaleAt 2 0 + 32 → at < length s2 → ⊥) → (scaleAt 3 0 ≤ at → at < scaleAt 3 0 + 32 → at < length s3 → ⊥)
@@ -259,15 +265,15 @@ pub reset-words : (s : List ℕ) → length s ≡ 16960 → Words (settingsReset
 reset-words s l =
     record {
       many = reset-length s ∙ l;
-      small = λ a. reset-word (λ y. y < 65536) s a l (λ f g. omega arith) (λ c h i. omega arith) (λ n. omega arith);
+      small = λ a. reset-word (λ y. y < 65536) s a l (λ f g. omega arith) (λ c h i. omega arith) (λ o n. omega arith);
       accepted =
           λ a e. reset-word (λ y. acceptedAt a y ≡ true) s a l (slot-accepts a) (λ c h i. scale-accepts c a 0x0100 h (i .0) (i .1))
-          (λ n. accepted-is a 0 ∙ zero-allowed (registerOf a) e);
+          (λ o n. accepted-is a 0 ∙ zero-allowed (registerOf a) e);
       table0 =
-          λ c i f g. reset-word (λ y. y ≡ 0) s (tableAt c 0 + i) l (λ u v. absurd (omega arith)) (λ d h j. absurd (omega arith)) (λ n. refl);
+          λ c i f g. reset-word (λ y. y ≡ 0) s (tableAt c 0 + i) l (λ u v. absurd (omega arith)) (λ d h j. absurd (omega arith)) (λ o n. refl);
       scale0 =
           λ c f. reset-word (λ y. y ≡ 0x0100) s (scaleAt c 0) l (λ u v. absurd (omega arith)) (λ d h j. refl)
-          (λ n. absurd (n c f (omega arith, omega arith)));
-      offset0 = λ c f. reset-word (λ y. y ≡ 0) s (offsetAt c 0) l (λ u v. absurd (omega arith)) (λ d h j. absurd (omega arith)) (λ n. refl);
+          (λ o n. absurd (n c f (omega arith, omega arith)));
+      offset0 = λ c f. reset-word (λ y. y ≡ 0) s (offsetAt c 0) l (λ u v. absurd (omega arith)) (λ d h j. absurd (omega arith)) (λ o n. refl);
       one = reset-one s l;
     }
