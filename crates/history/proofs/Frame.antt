@@ -31,8 +31,9 @@ use Rattle.history.proofs.Transfers.{each-any, write-keeps}
 
 -- ---- one word
 
-pub but-none : (c : ℕ) (x : State) → But c x x
-but-none c x =
+-- other settings of the block alone
+but-settings : (c : ℕ) (x : State) (s : List ℕ) → ((a : ℕ) → (InBlock c a → ⊥) → word s a ≡ word (x .settings) a) → But c x (state (x .card) s (x .tables))
+but-settings c x s h =
     record {
       others = λ j d. refl;
       phase = refl;
@@ -42,8 +43,11 @@ but-none c x =
       level = refl;
       event = refl;
       tables = refl;
-      settings = λ a d. refl;
+      settings = h;
     }
+
+pub but-none : (c : ℕ) (x : State) → But c x x
+but-none c x = but-settings c x (x .settings) (λ a d. refl)
 
 pub but-then : (c : ℕ) (x y z : State) → But c x y → But c y z → But c x z
 but-then c x y z p q =
@@ -61,18 +65,7 @@ but-then c x y z p q =
 
 module _ (c : ℕ) (x : State) where
   but-kept : (a v : ℕ) → InBlock c a → But c x (performOf x a (Keep v))
-  but-kept a v i =
-      record {
-        others = λ j d. refl;
-        phase = refl;
-        pending = refl;
-        loaded = refl;
-        counts = refl;
-        level = refl;
-        event = refl;
-        tables = refl;
-        settings = λ b d. getD-set-other (x .settings) a b v 0 (λ e. d (rw e i));
-      }
+  but-kept a v i = but-settings c x (set (x .settings) a v) (λ b d. getD-set-other (x .settings) a b v 0 (λ e. d (rw e i)))
 
   -- the channel's words shown
   but-shown : (ch : Channel) → ch .phase ≡ channelOf (x .card) c .phase → ch .level ≡ channelOf (x .card) c .level → ch .loaded ≡ channelOf (x .card) c .loaded
