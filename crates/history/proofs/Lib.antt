@@ -1,9 +1,14 @@
+pub mod Addresses
 pub mod Registers
 pub mod Cards
 pub mod Transfers
 pub mod Frame
 pub mod Fixed
 pub mod Words
+pub mod Effects
+pub mod Writing
+pub mod Reading
+pub mod Numbers
 pub mod Channels
 pub mod Sound
 pub mod Turns

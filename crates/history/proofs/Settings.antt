@@ -35,7 +35,7 @@ use Rattle.transfer.specs.declared.Answer.the-variants.{Beyond, NoAccess, BadCo
 use Rattle.transfer.specs.declared.Effect.the-variants as E
 use Rattle.transfer.specs.Word.{fixedAt, judgeOf, effectOf, performOf, onVerdict, writeWord}
 use Rattle.transfer.specs.Transfer.{Out, out, processedOf, badCount, writable, goOn, writeWords, writeIn, writeOf}
-use Rattle.history.specs.Sound.{isSetting}
+use Rattle.history.specs.Effects.{isSetting}
 use Rattle.history.specs.History.{Act, Tick, Write, Read, Reset, act, acts}
 use Rattle.history.specs.Settings.{isSlot, isScale, resetWord, wordLeft, leftAt, leftBy, lastWord, SettingsKept}
 use Rattle.history.proofs.Registers.{Own, own}

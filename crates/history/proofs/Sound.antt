@@ -32,7 +32,8 @@ use Rattle.transfer.specs.declared.Effect.{Effect}
 use Rattle.transfer.specs.declared.Effect.the-variants.{Keep, Output, ClearOverflow, ClearCount, Erase, Trigger, Nothing}
 use Rattle.transfer.specs.Word.{judgeOf, effectOf, outputTo, overflowCleared, performOf, onVerdict, writeWord}
 use Rattle.transfer.specs.Transfer.{writeOf}
-use Rattle.history.specs.Sound.{isSetting, Words, Tables, ShownSound, ChannelSound, CardSound, Sound, Each, Reachable}
+use Rattle.history.specs.Effects.{isSetting}
+use Rattle.history.specs.Sound.{Words, Tables, ShownSound, ChannelSound, CardSound, Sound, Each, Reachable}
 use Rattle.history.proofs.Fixed.{slot-register}
 use Rattle.history.proofs.Words.{Passed, passed, set-word, stored, erased-words, reset-words}
 use Rattle.history.proofs.Channels.{SideSound, tick-sound, strike-sound}

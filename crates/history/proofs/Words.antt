@@ -30,7 +30,8 @@ use Rattle.transfer.specs.declared.Why.the-variants.{Fixed, Value, Held, Runnin
 use Rattle.transfer.specs.declared.Verdict.{Verdict}
 use Rattle.transfer.specs.declared.Verdict.the-variants.{Accepted, Refused}
 use Rattle.transfer.specs.Word.{fixedAt, isLevel, heldAt, runningAt, judgeOf}
-use Rattle.history.specs.Sound.{isSetting, Words}
+use Rattle.history.specs.Effects.{isSetting}
+use Rattle.history.specs.Sound.{Words}
 use Rattle.history.proofs.Fixed.{slot-register, table0-fixed, scale0-fixed, offset0-fixed, scale-accepts}
 
 -- ---- what an accepted word has passed

@@ -11,6 +11,8 @@ use Rattle.card.specs.Card.{State}
 use Rattle.card.specs.Trigger.{acceptedOf}
 use Rattle.card.specs.Tick.{tickWith}
 use Rattle.card.specs.Reset.{resetOf}
+use Rattle.map.specs.Map.{registerOf}
+use Rattle.transfer.specs.Word.{effectOf, performOf, readWord}
 use Rattle.transfer.specs.Transfer.{processedOf, writeOf}
 
 pub data Act : Type 0 where
@@ -32,11 +34,22 @@ abbrev pub acts : State → List Act → State
 acts st [] = st
 acts st (x ∷ xs) = acts (act st x) xs
 
--- ---- triggers
+-- the word that a read gives at an address
+abbrev pub readBack : State → ℕ → ℕ
+readBack st a = readWord (st .settings) (st .card) a
 
--- the words that a write does
+-- ---- the words of a write
+
+-- the words that a write does: the first of them, as many as it says
 abbrev pub wordsDone : State → ℕ → ℕ → List ℕ → List ℕ
 wordsDone st start count ws = take (processedOf (writeOf st start count ws .answer)) ws
+
+-- words done from address a on, one after the other, each with all its effects
+abbrev pub doneFrom : State → ℕ → List ℕ → State
+doneFrom st a [] = st
+doneFrom st a (v ∷ vs) = doneFrom (performOf st a (effectOf (registerOf a) v)) (a + 1) vs
+
+-- ---- triggers
 
 -- the level written at 0x4202 by words done from address a on
 abbrev pub manualAmong : ℕ → List ℕ → Holder

@@ -1,6 +1,8 @@
+pub mod History
+pub mod Numbers
+pub mod Effects
 pub mod Frame
 pub mod Sound
-pub mod History
 pub mod Demand3
 pub mod Counts
 pub mod Settings

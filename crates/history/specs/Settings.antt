@@ -8,7 +8,7 @@ use lib.ListN.{length}
 use Rattle.map.specs.Map.{registerOf}
 use Rattle.channel.specs.Channel.{word}
 use Rattle.card.specs.Card.{State}
-use Rattle.history.specs.Sound.{isSetting}
+use Rattle.history.specs.Effects.{isSetting}
 use Rattle.history.specs.History.{Act, Tick, Write, Read, Reset, act, acts, wordsDone}
 
 -- 'trigger slots', 'scale factors'

@@ -4,8 +4,6 @@ use mathlib.Core.Bool.{Bool, true, false}
 use mathlib.Core.List.{List, [], _∷_}
 use Prim.Native.Nat.{ℕ, _+_, _≤_, _<_}
 use lib.ListN.{length}
-use Rattle.map.specs.declared.Register.{Register}
-use Rattle.map.specs.declared.Register.the-variants as R
 use Rattle.map.specs.Map.{registerOf, acceptedAt}
 use Rattle.map.specs.Addresses.{tableAt, scaleAt, offsetAt}
 use Rattle.slots.specs.Slots.{OneLevel}
@@ -23,22 +21,7 @@ use Rattle.card.specs.Card.{State, channelOf, countOf}
 use Rattle.card.specs.Tick.{tickWith, ticks}
 use Rattle.card.specs.Reset.{resetOf}
 use Rattle.transfer.specs.Transfer.{writeOf}
-
--- 'settings are the RW words except A04, A39 and the level counts'
-abbrev pub isSetting : Register → Bool
-isSetting (R.Setting s) = true
-isSetting (R.Fixed s) = true
-isSetting (R.Output c) = false
-isSetting (R.Status c f) = false
-isSetting (R.Overflow c) = false
-isSetting (R.Slot l) = true
-isSetting (R.Image e) = false
-isSetting R.Erase = false
-isSetting R.Manual = false
-isSetting R.ActiveLevel = false
-isSetting R.ActiveEvent = false
-isSetting (R.Count l) = false
-isSetting R.Unlisted = false
+use Rattle.history.specs.Effects.{isSetting}
 
 -- the settings, by address
 pub record Words (s : List ℕ) : Type 0 where

@@ -1,0 +1,53 @@
+-- All that an accepted word does, by its address.
+use mathlib.Core.Path.{_≡_}
+use mathlib.Core.Bool.{Bool, true, false}
+use mathlib.Core.List.{List}
+use Prim.Native.Nat.{ℕ, _+_, _≤_, _<_}
+use lib.ListN.{set}
+use Rattle.map.specs.declared.Found.{Found}
+use Rattle.map.specs.declared.Register.{Register}
+use Rattle.map.specs.declared.Register.the-variants as R
+use Rattle.map.specs.Map.{base, registerOf}
+use Rattle.slots.specs.Slots.{erased}
+use Rattle.channel.specs.Channel.{runsOf}
+use Rattle.card.specs.Card.{State, state, channelOf, withChannel, withCount}
+use Rattle.card.specs.Trigger.{triggerOf}
+use Rattle.transfer.specs.Word.{effectOf, outputTo, overflowCleared, performOf}
+use Rattle.history.specs.Numbers.{first, toWrite}
+
+-- 'settings are the RW words except A04, A39 and the level counts'
+abbrev pub isSetting : Register → Bool
+isSetting (R.Setting s) = true
+isSetting (R.Fixed s) = true
+isSetting (R.Output c) = false
+isSetting (R.Status c f) = false
+isSetting (R.Overflow c) = false
+isSetting (R.Slot l) = true
+isSetting (R.Image e) = false
+isSetting R.Erase = false
+isSetting R.Manual = false
+isSetting R.ActiveLevel = false
+isSetting R.ActiveEvent = false
+isSetting (R.Count l) = false
+isSetting R.Unlisted = false
+
+-- the word v done at address a makes y of x
+pub data Does (x : State) (a v : ℕ) (y : State) : Type 0 where
+  -- a setting keeps it
+  Keeps : isSetting (registerOf a) ≡ true → y ≡ state (x .card) (set (x .settings) a v) (x .tables) → Does x a v y
+  -- A04: the output, while no ramp runs
+  Outputs : (c : ℕ) → c < 4 → a ≡ base c + 0xA04 → runsOf (channelOf (x .card) c) ≡ false
+      → y ≡ state (withChannel (x .card) c (outputTo (channelOf (x .card) c) v)) (x .settings) (x .tables) → Does x a v y
+  -- A39 and a level's count: 'any, sets 0'
+  ClearsOverflow : (c : ℕ) → c < 4 → a ≡ base c + 0xA39
+      → y ≡ state (withChannel (x .card) c (overflowCleared (channelOf (x .card) c))) (x .settings) (x .tables) → Does x a v y
+  ClearsCount : (level : ℕ) → a ≡ 0x4220 + level → y ≡ state (withCount (x .card) level 0) (x .settings) (x .tables) → Does x a v y
+  -- 0x4201: '1 sets every slot to FE, 0 does nothing'
+  Erases : a ≡ 0x4201 → v ≡ 1 → y ≡ state (x .card) (erased (x .settings)) (x .tables) → Does x a v y
+  Idles : a ≡ 0x4201 → v ≡ 0 → y ≡ x → Does x a v y
+  -- 0x4202: a trigger of level v, 'the event 0xFE if manual'
+  Triggers : a ≡ 0x4202 → v ≤ 31 → y ≡ triggerOf x v 0xFE → Does x a v y
+
+-- of every word that is not refused
+unfoldable pub AllEffects : Type 0
+AllEffects = (r : Found) (x : State) (a v : ℕ) → first (toWrite r x a v) ≡ 0 → Does x a v (performOf x a (effectOf (registerOf a) v))
