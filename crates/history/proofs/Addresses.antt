@@ -1,18 +1,20 @@
 -- Where each register is: a rule of every row, and the rows of the words that theorems name by their address. Assumes nothing.
 use mathlib.Core.Path.{_≡_, refl, sym, ap, _∙_}
-use mathlib.Core.Bool.{Bool, true, false, cond}
+use mathlib.Core.Bool.{Bool, true, false, cond, true≢false}
 use mathlib.Core.List.{List}
 use Prim.Native.Nat.{ℕ, zero, suc, _+_, _-_, _/_, _%_, _≤_, _<_}
 use native.Mathlib.Omega.{arith}
 use lib.Dec.{ltb}
+use lib.ListN.{length, getD}
 use borrow.Author.Tests.{ltb-true, ltb-false}
 use Rattle.map.specs.declared.Setting.{Setting}
 use Rattle.map.specs.declared.Setting.the-variants as S
+use Rattle.map.specs.declared.Field.the-variants as F
 use Rattle.map.specs.declared.Register.{Register}
 use Rattle.map.specs.declared.Register.the-variants as R
-use Rattle.map.specs.Map.{Row, Hit, hit, miss, scan, channelRows, cardRows, base, settings, point, namedIn, registerOf}
-use Rattle.map.proofs.Rows.{All, Hits, at, hits, scan-all}
-use Rattle.map.proofs.Blocks.{in-card, channel-register}
+use Rattle.map.specs.Map.{Row, Hit, hit, miss, scan, channelRows, cardRows, base, settings, point, noRow, namedIn, named, registerOf}
+use Rattle.map.proofs.Rows.{All, Hits, at, hits, scan-all, in-row-k}
+use Rattle.map.proofs.Blocks.{channel-ordered, card-ordered, in-card, channel-register}
 
 -- register r may be at address a
 abbrev pub Sits : Register → ℕ → Type 0
@@ -27,7 +29,7 @@ Sits R.Erase a = a ≡ 0x4201
 Sits R.Manual a = a ≡ 0x4202
 Sits R.ActiveLevel a = Unit
 Sits R.ActiveEvent a = Unit
-Sits (R.Count l) a = a ≡ 0x4220 + l
+Sits (R.Count l) a = (l < 32) × (a ≡ 0x4220 + l)
 Sits R.Unlisted a = Unit
 
 -- of a row that is raised by b for channel c
@@ -52,7 +54,7 @@ card-sits : All (SitsBy (λ c. 0) (λ c. Unit)) cardRows
 unfolding cardRows
 card-sits = (
   (λ c o i f. (omega arith, omega arith)),
-  ((λ c o i f. tt), ((λ c o i f. setting 0 (λ n. S.ClockEnable) c o (0 + (0x4200 + o))), ((λ c o i f. omega arith), ((λ c o i f. omega arith), ((λ c o i f. tt), ((λ c o i f. tt), ((λ c o i f. omega arith), tt))))))),
+  ((λ c o i f. tt), ((λ c o i f. setting 0 (λ n. S.ClockEnable) c o (0 + (0x4200 + o))), ((λ c o i f. omega arith), ((λ c o i f. omega arith), ((λ c o i f. tt), ((λ c o i f. tt), ((λ c o i f. (omega arith, omega arith)), tt))))))),
 )
 
 -- the register of an offset in rows that are raised
@@ -78,3 +80,103 @@ sits a = go (ltb a 0x4000) refl
         let h = ltb-false a 0x4000 e in
         let d : 0 + a ≡ a = omega arith in
         rw (in-card a h) (rw d at (row-sits (λ c. 0) (λ c. Unit) cardRows card-sits (scan cardRows a) (a / 0x1000) a tt refl))
+
+-- ---- the register of an address, by its row
+
+-- row k of a channel's rows, at offset o
+pub channel-row : (c o k : ℕ) → c < 4 → o < 0x1000 → k < length channelRows → getD channelRows k noRow .region .first ≤ o → o ≤ getD channelRows k noRow .region .last
+    → registerOf (base c + o) ≡ getD channelRows k noRow .meaning c (o - getD channelRows k noRow .region .first)
+channel-row c o k h l n f g =
+    let d : (base c + o) / 0x1000 ≡ c = omega arith in
+    let m : (base c + o) % 0x1000 ≡ o = omega arith in
+    rw (channel-register (base c + o) (omega arith), d, m) (sym (in-row-k c channelRows channel-ordered k o n f g))
+
+-- row k of the card's own
+card-row : (a k : ℕ) → 0x4000 ≤ a → k < length cardRows → getD cardRows k noRow .region .first ≤ a → a ≤ getD cardRows k noRow .region .last
+    → registerOf a ≡ getD cardRows k noRow .meaning (a / 0x1000) (a - getD cardRows k noRow .region .first)
+card-row a k h n f g = rw (in-card a h) (sym (in-row-k (a / 0x1000) cardRows card-ordered k a n f g))
+
+module _ (c : ℕ) (inside : c < 4) where
+  pub output-register : registerOf (base c + 0xA04) ≡ R.Output c
+  unfolding channelRows
+  output-register = channel-row c 0xA04 8 inside (omega arith) (omega arith) (omega arith) (omega arith)
+
+  pub table-register : registerOf (base c + 0xA30) ≡ R.Status c F.Table
+  unfolding channelRows
+  table-register = channel-row c 0xA30 9 inside (omega arith) (omega arith) (omega arith) (omega arith)
+
+  pub scale-register : registerOf (base c + 0xA31) ≡ R.Status c F.Scale
+  unfolding channelRows
+  scale-register = channel-row c 0xA31 10 inside (omega arith) (omega arith) (omega arith) (omega arith)
+
+  pub offset-register : registerOf (base c + 0xA32) ≡ R.Status c F.Offset
+  unfolding channelRows
+  offset-register = channel-row c 0xA32 11 inside (omega arith) (omega arith) (omega arith) (omega arith)
+
+  pub segment-register : registerOf (base c + 0xA33) ≡ R.Status c F.Segment
+  unfolding channelRows
+  segment-register = channel-row c 0xA33 12 inside (omega arith) (omega arith) (omega arith) (omega arith)
+
+  pub left-register : registerOf (base c + 0xA34) ≡ R.Status c F.Left
+  unfolding channelRows
+  left-register = channel-row c 0xA34 13 inside (omega arith) (omega arith) (omega arith) (omega arith)
+
+  pub overflow-register : registerOf (base c + 0xA39) ≡ R.Overflow c
+  unfolding channelRows
+  overflow-register = channel-row c 0xA39 14 inside (omega arith) (omega arith) (omega arith) (omega arith)
+
+-- a slot's register names its level
+pub slot-register : (a : ℕ) → 0x4000 ≤ a → a < 0x4100 → registerOf a ≡ R.Slot ((a - 0x4000) / 8)
+unfolding cardRows
+slot-register a f g = card-row a 0 f (omega arith) f (omega arith)
+
+pub image-register : (e : ℕ) → e < 256 → registerOf (0x4100 + e) ≡ R.Image e
+unfolding cardRows
+image-register e h =
+    let d : 0x4100 + e - 0x4100 ≡ e = omega arith in
+    card-row (0x4100 + e) 1 (omega arith) (omega arith) (omega arith) (omega arith) ∙ ap R.Image d
+
+pub erase-register : registerOf 0x4201 ≡ R.Erase
+unfolding cardRows
+erase-register = card-row 0x4201 3 (omega arith) (omega arith) (omega arith) (omega arith)
+
+pub manual-register : registerOf 0x4202 ≡ R.Manual
+unfolding cardRows
+manual-register = card-row 0x4202 4 (omega arith) (omega arith) (omega arith) (omega arith)
+
+pub level-register : registerOf 0x4210 ≡ R.ActiveLevel
+unfolding cardRows
+level-register = card-row 0x4210 5 (omega arith) (omega arith) (omega arith) (omega arith)
+
+pub event-register : registerOf 0x4211 ≡ R.ActiveEvent
+unfolding cardRows
+event-register = card-row 0x4211 6 (omega arith) (omega arith) (omega arith) (omega arith)
+
+pub count-register : (level : ℕ) → level < 32 → registerOf (0x4220 + level) ≡ R.Count level
+unfolding cardRows
+count-register level h =
+    let d : 0x4220 + level - 0x4220 ≡ level = omega arith in
+    card-row (0x4220 + level) 7 (omega arith) (omega arith) (omega arith) (omega arith) ∙ ap R.Count d
+
+-- ---- no listed word lies past the level counts
+
+abbrev Short : Row → Type 0
+Short r = r .region .last < 16960
+
+card-short : All Short cardRows
+unfolding cardRows
+card-short = (omega arith, (omega arith, (omega arith, (omega arith, (omega arith, (omega arith, (omega arith, (omega arith, tt))))))))
+
+pub named-below : (a : ℕ) → named (registerOf a) ≡ true → a < 16960
+named-below a = go (ltb a 0x4000) refl
+  where
+    in-rows : (h : Hit) → scan cardRows a ≡ h → named (namedIn h (a / 0x1000) a) ≡ true → a < 16960
+    in-rows (hit r) e n = by (hits cardRows a r e)
+      where
+        by : Hits cardRows a r → a < 16960
+        by (at k m x u v) = let s = scan-all Short cardRows card-short a r e in omega arith
+    in-rows miss e n = absurd (true≢false (sym n))
+
+    go : (x : Bool) → ltb a 0x4000 ≡ x → named (registerOf a) ≡ true → a < 16960
+    go true e n = let h = ltb-true a 0x4000 e in omega arith
+    go false e n = in-rows (scan cardRows a) refl (rw (in-card a (ltb-false a 0x4000 e)) at n)

@@ -1,43 +1,34 @@
 -- A level's count after any history is the number of its accepted triggers since its last clearing or reset, modulo 65,536
 -- (`counts-right`): a trigger adds 1 to it, a word done at its address clears it, and nothing else touches it. Assumes nothing.
-use mathlib.Core.Path.{_≡_, refl, sym, ap, _∙_}
+use mathlib.Core.Path.{_≡_, refl, sym, ap, _∙_, subst}
 use mathlib.Core.Bool.{Bool, true, false, _||_, cond, true≢false}
 use mathlib.Core.List.{List, [], _∷_}
-use Prim.Native.Nat.{ℕ, zero, suc, _+_, _-_, _/_, _%_, _≤_, _<_}
+use Prim.Native.Nat.{ℕ, _+_, _*_, _%_, _<_}
 use native.Mathlib.Omega.{arith}
 use lib.Dec.{eqb, ltb}
-use lib.ListN.{length, getD, set, take, replicate, length-set, length-take, getD-replicate}
-use lib.Seq.{getD-set-same, getD-set-other, take-take}
-use borrow.Author.Tests.{ltb-true, ltb-false, lt-ltb, eq-eqb, ne-eqb, eqb-true, eqb-false}
+use lib.ListN.{length, getD, set, replicate, length-set, getD-replicate}
+use lib.Seq.{getD-set-same, getD-set-other}
+use borrow.Author.Tests.{lt-ltb, eq-eqb, ne-eqb, eqb-true, eqb-false}
 use Rattle.word.specs.Word.{grown}
-use Rattle.map.specs.declared.Found.{Found}
-use Rattle.map.specs.declared.Found.the-variants.{At, Nothing}
-use Rattle.map.specs.declared.Region.{Region}
-use Rattle.map.specs.declared.Register.{Register}
-use Rattle.map.specs.declared.Register.the-variants as R
-use Rattle.map.specs.declared.Setting.{Setting}
-use Rattle.map.specs.declared.Setting.the-variants as S
-use Rattle.map.specs.Map.{Row, Hit, hit, miss, scan, cardRows, settings, namedIn, regionOf, registerOf}
-use Rattle.map.proofs.Rows.{All, Hits, at, hits, scan-all, in-row-k}
-use Rattle.map.proofs.Blocks.{card-ordered, in-card}
+use Rattle.map.specs.Map.{base, registerOf}
 use Rattle.slots.specs.declared.Holder.{Holder}
 use Rattle.slots.specs.declared.Holder.the-variants.{Level, Nobody}
+use Rattle.slots.specs.Slots.{erased}
 use Rattle.channel.specs.declared.Channel.{Channel}
 use Rattle.card.specs.declared.Card.{Card}
-use Rattle.card.specs.Card.{State, channelOf, withChannel, countOf, withCount, withChannels, onAll}
+use Rattle.card.specs.Card.{State, state, channelOf, withChannel, countOf, withCount, withChannels, onAll}
 use Rattle.card.specs.Trigger.{struck, triggerOf, acceptedOf, onEvent}
 use Rattle.card.specs.Tick.{advanced}
 use Rattle.card.specs.Reset.{cardReset, resetOf}
-use Rattle.transfer.specs.declared.Verdict.{Verdict}
-use Rattle.transfer.specs.declared.Verdict.the-variants as D
-use Rattle.transfer.specs.declared.Answer.the-variants.{Beyond, NoAccess, BadCount}
-use Rattle.transfer.specs.declared.Effect.the-variants as E
-use Rattle.transfer.specs.Word.{judgeOf, effectOf, outputTo, overflowCleared, performOf, onVerdict, writeWord}
-use Rattle.transfer.specs.Transfer.{Out, out, processedOf, badCount, writable, goOn, writeWords, writeIn, writeOf}
-use Rattle.history.specs.History.{Act, Tick, Write, Read, Reset, act, acts, manualAmong, triggerBy}
-use Rattle.history.specs.Counts.{doesAt, clears, tally, since, CountsRight}
-use Rattle.history.proofs.Registers.{Own, own}
-use Rattle.history.proofs.Done.{count, manual-at, none-first}
+use Rattle.transfer.specs.Word.{outputTo, overflowCleared}
+use Rattle.transfer.specs.Transfer.{writeOf}
+use Rattle.history.specs.History.{Act, Tick, Write, Read, Reset, act, acts, wordsDone, manualAmong, triggerBy}
+use Rattle.history.specs.Effects.{isSetting, Does, Keeps, Outputs, ClearsOverflow, ClearsCount, Erases, Idles, Triggers}
+use Rattle.history.specs.Counts.{doesAt, clears, tally, triggersSince, CountsRight}
+use Rattle.history.proofs.Addresses.{count-register}
+use Rattle.history.proofs.Effects.{passed-does}
+use Rattle.history.proofs.Writing.{write-by}
+use Rattle.history.proofs.Done.{none-first}
 use Rattle.history.proofs.Manual.{manual-write}
 
 -- ---- a card with another count or another channel
@@ -55,53 +46,6 @@ count-many k l n = go (ltb l 32)
     go : (b : Bool) → length (cond b (record { channels = k .channels; counts = set (k .counts) l n; level = k .level; event = k .event }) k .counts) ≡ length (k .counts)
     go true = length-set (k .counts) l n
     go false = refl
-
--- the registers of the level counts
-count-register : (level : ℕ) → level < 32 → registerOf (0x4220 + level) ≡ R.Count level
-unfolding cardRows
-count-register level h =
-    let e : 0x4220 + level - 0x4220 ≡ level = omega arith in
-    rw (in-card (0x4220 + level) (omega arith))
-    (sym (in-row-k ((0x4220 + level) / 0x1000) cardRows card-ordered 7 (0x4220 + level) (omega arith) (omega arith) (omega arith)) ∙ ap R.Count e)
-
-abbrev Counts : Row → Type 0
-Counts r = (c o l : ℕ) → r .meaning c o ≡ R.Count l → (r .region .first ≡ 0x4220) × (o ≡ l)
-
-no-setting : (n : ℕ) (s : ℕ → Setting) (c o l : ℕ) → settings n s c o ≡ R.Count l → ⊥
-no-setting n s c o l = go (ltb o n)
-  where
-    go : (b : Bool) → cond b (R.Fixed (s o)) (R.Setting (s o)) ≡ R.Count l → ⊥
-    go true e = let z : _≡_ {A = ℕ} 0 1 = cc in omega arith
-    go false e = let z : _≡_ {A = ℕ} 0 1 = cc in omega arith
-
-never : {P : Type 0} → _≡_ {A = ℕ} 0 1 → P
-never z = absurd (omega arith)
-
-card-counts : All Counts cardRows
-unfolding cardRows
-card-counts = (
-  (λ c o l e. never (cc)),
-  ((λ c o l e. never (cc)), ((λ c o l e. absurd (no-setting 0 (λ n. S.ClockEnable) c o l e)), ((λ c o l e. never (cc)), ((λ c o l e. never (cc)), ((λ c o l e. never (cc)), ((λ c o l e. never (cc)), ((λ c o l e. (refl, cc)), tt))))))),
-)
-
-count-row : (h : Hit) (c a l : ℕ) → scan cardRows a ≡ h → namedIn h c a ≡ R.Count l → a ≡ 0x4220 + l
-count-row (hit r) c a l e f = go (hits cardRows a r e)
-  where
-    go : Hits cardRows a r → a ≡ 0x4220 + l
-    go (at k n x u v) = let y = scan-all Counts cardRows card-counts a r e c (a - r .region .first) l f in omega (arith, y .0, y .1)
-count-row miss c a l e f = never (cc)
-
-count-address : (a l : ℕ) → registerOf a ≡ R.Count l → a ≡ 0x4220 + l
-count-address a l e = go (ltb a 0x4000) refl
-  where
-    none : (r : Register) (c : ℕ) → Own c r → r ≡ R.Count l → ⊥
-    none r c o f = rw f at o
-
-    go : (b : Bool) → ltb a 0x4000 ≡ b → a ≡ 0x4220 + l
-    go true f =
-        let h = ltb-true a 0x4000 f in
-        absurd (none (registerOf a) (a / 0x1000) (own (a / 0x1000) a (omega arith) (omega arith, omega arith)) e)
-    go false f = count-row (scan cardRows a) (a / 0x1000) a l refl (rw (in-card a (ltb-false a 0x4000 f)) at e)
 
 module _ (level : ℕ) (inside : level < 32) where
   count-at : (k : Card) (l n : ℕ) → length (k .counts) ≡ 32 → countOf (withCount k l n) level ≡ cond (eqb level l) n (countOf k level)
@@ -134,46 +78,30 @@ module _ (level : ℕ) (inside : level < 32) where
 
   -- ---- a word done
 
-  -- at another address, or of another register: the counts stay
-  away : (a : ℕ) (r : Register) → registerOf a ≡ r → (r ≡ R.Count level → ⊥) → eqb a (0x4220 + level) ≡ false
-  away a r e n = ne-eqb a (0x4220 + level) (λ d. n (sym e ∙ ap registerOf d ∙ count-register level inside))
-
-  stays : (x y : State) (a : ℕ) (r : Register) → length (x .card .counts) ≡ 32 → registerOf a ≡ r → (r ≡ R.Count level → ⊥) → y .card .counts ≡ x .card .counts
+  -- at another address the counts stay
+  stays : (x y : State) (a : ℕ) → length (x .card .counts) ≡ 32 → (a ≡ 0x4220 + level → ⊥) → y .card .counts ≡ x .card .counts
       → Counted x y (eqb a (0x4220 + level)) 0
-  stays x y a r f e n g = record { many = rw g f; is = rw (away a r e n, g) }
+  stays x y a f n g = record { many = rw g f; is = rw (ne-eqb a (0x4220 + level) n, g) }
 
-  cleared : (st : State) (a l : ℕ) → length (st .card .counts) ≡ 32 → registerOf a ≡ R.Count l
-      → Counted st (performOf st a (E.ClearCount l)) (eqb a (0x4220 + level)) 0
-  cleared st a l f e = record { many = count-many (st .card) l 0 ∙ f; is = count-at (st .card) l 0 f ∙ ap (λ b. cond b 0 (countOf (st .card) level)) same }
+  cleared : (st : State) (a l : ℕ) → length (st .card .counts) ≡ 32 → a ≡ 0x4220 + l
+      → Counted st (state (withCount (st .card) l 0) (st .settings) (st .tables)) (eqb a (0x4220 + level)) 0
+  cleared st a l f e = record { many = count-many (st .card) l 0 ∙ f; is = count-at (st .card) l 0 f ∙ ap (λ b. cond b 0 (countOf (st .card) level)) (same (eqb level l) refl) }
     where
-      same : eqb level l ≡ eqb a (0x4220 + level)
-      same = go (eqb level l) refl
-        where
-          go : (b : Bool) → eqb level l ≡ b → b ≡ eqb a (0x4220 + level)
-          go true d = let g = eqb-true level l d in sym (eq-eqb a (0x4220 + level) (omega (arith, count-address a l e)))
-          go false d = let g = eqb-false level l d in sym (ne-eqb a (0x4220 + level) (λ u. g (omega (arith, count-address a l e))))
+      same : (b : Bool) → eqb level l ≡ b → b ≡ eqb a (0x4220 + level)
+      same true d = let g = eqb-true level l d in sym (eq-eqb a (0x4220 + level) (omega arith))
+      same false d = let g = eqb-false level l d in sym (ne-eqb a (0x4220 + level) (λ u. g (omega arith)))
 
-  effect-count : (st : State) (r : Register) (a v : ℕ) → length (st .card .counts) ≡ 32 → registerOf a ≡ r → (r ≡ R.Manual → ⊥)
-      → Counted st (performOf st a (effectOf r v)) (eqb a (0x4220 + level)) 0
-  effect-count st (R.Setting s) a v f e n = stays st (performOf st a (E.Keep v)) a (R.Setting s) f e (λ d. never (cc)) refl
-  effect-count st (R.Fixed s) a v f e n = stays st st a (R.Fixed s) f e (λ d. never (cc)) refl
-  effect-count st (R.Output c) a v f e n =
-      stays st (performOf st a (E.Output c v)) a (R.Output c) f e (λ d. never (cc)) (channel-counts (st .card) c (outputTo (channelOf (st .card) c) v))
-  effect-count st (R.Status c x) a v f e n = stays st st a (R.Status c x) f e (λ d. never (cc)) refl
-  effect-count st (R.Overflow c) a v f e n =
-      stays st (performOf st a (E.ClearOverflow c)) a (R.Overflow c) f e (λ d. never (cc)) (channel-counts (st .card) c (overflowCleared (channelOf (st .card) c)))
-  effect-count st (R.Slot l) a v f e n = stays st (performOf st a (E.Keep v)) a (R.Slot l) f e (λ d. never (cc)) refl
-  effect-count st (R.Image i) a v f e n = stays st st a (R.Image i) f e (λ d. never (cc)) refl
-  effect-count st R.Erase a v f e n = go (eqb v 1)
-    where
-      go : (b : Bool) → Counted st (performOf st a (cond b E.Erase E.Nothing)) (eqb a (0x4220 + level)) 0
-      go true = stays st (performOf st a E.Erase) a R.Erase f e (λ d. never (cc)) refl
-      go false = stays st st a R.Erase f e (λ d. never (cc)) refl
-  effect-count st R.Manual a v f e n = absurd (n refl)
-  effect-count st R.ActiveLevel a v f e n = stays st st a R.ActiveLevel f e (λ d. never (cc)) refl
-  effect-count st R.ActiveEvent a v f e n = stays st st a R.ActiveEvent f e (λ d. never (cc)) refl
-  effect-count st (R.Count l) a v f e n = cleared st a l f e
-  effect-count st R.Unlisted a v f e n = stays st st a R.Unlisted f e (λ d. never (cc)) refl
+  word-count : (st : State) (a v : ℕ) (y : State) → length (st .card .counts) ≡ 32 → (a ≡ 0x4202 → ⊥) → Does st a v y → Counted st y (eqb a (0x4220 + level)) 0
+  word-count st a v y f n (Keeps i e) =
+      stays st y a f (λ d. true≢false (sym i ∙ ap (λ b. isSetting (registerOf b)) d ∙ ap isSetting (count-register level inside))) (ap (λ (x : State). x .card .counts) e)
+  word-count st a v y f n (Outputs c h i g e) =
+      stays st y a f (λ d. absurd (omega arith)) (ap (λ (x : State). x .card .counts) e ∙ channel-counts (st .card) c (outputTo (channelOf (st .card) c) v))
+  word-count st a v y f n (ClearsOverflow c h i e) =
+      stays st y a f (λ d. absurd (omega arith)) (ap (λ (x : State). x .card .counts) e ∙ channel-counts (st .card) c (overflowCleared (channelOf (st .card) c)))
+  word-count st a v y f n (ClearsCount l h i e) = subst (λ x. Counted st x (eqb a (0x4220 + level)) 0) (sym e) (cleared st a l f i)
+  word-count st a v y f n (Erases i g e) = stays st y a f (λ d. absurd (omega arith)) (ap (λ (x : State). x .card .counts) e)
+  word-count st a v y f n (Idles i g e) = stays st y a f (λ d. absurd (omega arith)) (ap (λ (x : State). x .card .counts) e)
+  word-count st a v y f n (Triggers i g e) = absurd (n i)
 
   none-done : (x : State) → length (x .card .counts) ≡ 32 → Counted x x false 0
   none-done x f = record { many = f; is = refl }
@@ -183,75 +111,14 @@ module _ (level : ℕ) (inside : level < 32) where
   both x y z true false p q = record { many = q .many; is = q .is ∙ p .is }
   both x y z false b p q = record { many = q .many; is = q .is ∙ ap (λ n. cond b 0 n) (p .is) }
 
-  -- n words are done from address a on, none of them at 0x4202
-  words-count : (st : State) (a last i n : ℕ) (vs : List ℕ) → length (st .card .counts) ≡ 32 → processedOf (writeWords st a last i vs .answer) ≡ i + n
-      → manualAmong a (take n vs) ≡ Nobody → Counted st (writeWords st a last i vs .state) (doesAt (0x4220 + level) a (take n vs)) 0
-  unfolding writeWords writeWord
-  words-count st a last i zero [] f e q = none-done st f
-  words-count st a last i (suc n) [] f e q = none-done st f
-  words-count st a last i n (v ∷ vs) f e q =
-      go (judgeOf (st .settings) (st .card) (registerOf a) v) (ltb last a) e
-      (λ m g u w. words-count (performOf st a (effectOf (registerOf a) v)) (a + 1) last (i + 1) m vs g u w)
-    where
-      done : State
-      done = performOf st a (effectOf (registerOf a) v)
-
-      rest : Out
-      rest = writeWords done (a + 1) last (i + 1) vs
-
-      Later : Type 0
-      Later = (m : ℕ) → length (done .card .counts) ≡ 32 → processedOf (rest .answer) ≡ i + 1 + m → manualAmong (a + 1) (take m vs) ≡ Nobody
-          → Counted done (rest .state) (doesAt (0x4220 + level) (a + 1) (take m vs)) 0
-
-      -- none is done here
-      stop : i ≡ i + n → Counted st st (doesAt (0x4220 + level) a (take n (v ∷ vs))) 0
-      stop u = let z : n ≡ 0 = omega arith in rw z (none-done st f)
-
-      first : (m : ℕ) → n ≡ suc m → processedOf (rest .answer) ≡ i + n → Later → Counted st (rest .state) (doesAt (0x4220 + level) a (take n (v ∷ vs))) 0
-      first m k u ih =
-          let y = none-first a v (take m vs) (rw k at q) in
-          let p = effect-count st (registerOf a) a v f refl (λ z. y .0 (manual-at a z)) in
-          rw k (both st done (rest .state) (eqb a (0x4220 + level)) (doesAt (0x4220 + level) (a + 1) (take m vs)) p (ih m (p .many) (omega arith) (y .1)))
-
-      go : (d : Verdict) (b : Bool)
-          → processedOf (cond b (out st (Beyond i)) (goOn (onVerdict d st a v .verdict) (onVerdict d st a v .state) i (writeWords (onVerdict d st a v .state) (a + 1) last (i + 1) vs)) .answer) ≡ i + n
-          → Later
-          → Counted st (cond b (out st (Beyond i)) (goOn (onVerdict d st a v .verdict) (onVerdict d st a v .state) i (writeWords (onVerdict d st a v .state) (a + 1) last (i + 1) vs)) .state)
-          (doesAt (0x4220 + level) a (take n (v ∷ vs))) 0
-      go d true u ih = stop u
-      go D.Accepted false u ih =
-          let k = count done (a + 1) last (i + 1) vs .least in
-          let m : n ≡ suc (n - 1) = omega arith in
-          first (n - 1) m u ih
-      go (D.Refused why) false u ih = stop u
-
-  write-count : (st : State) (start many : ℕ) (ws : List ℕ) → length (st .card .counts) ≡ 32
-      → manualAmong start (take (processedOf (writeOf st start many ws .answer)) ws) ≡ Nobody
-      → Counted st (writeOf st start many ws .state) (doesAt (0x4220 + level) start (take (processedOf (writeOf st start many ws .answer)) ws)) 0
-  unfolding writeOf
-  write-count st start many ws f = go (badCount many (length ws)) (regionOf start)
-    where
-      most : (q : Region) (n : ℕ) → processedOf (writeWords st start (q .last) 0 (take many ws) .answer) ≡ n → manualAmong start (take n ws) ≡ Nobody
-          → Counted st (writeWords st start (q .last) 0 (take many ws) .state) (doesAt (0x4220 + level) start (take n ws)) 0
-      most q n u e =
-          let k = count st start (q .last) 0 (take many ws) .most in
-          let l = length-take many ws in
-          let t : take n (take many ws) ≡ take n ws = take-take n many ws (omega arith) in
-          rw (← t) (words-count st start (q .last) 0 n (take many ws) f (omega arith) (rw t e))
-
-      may : (q : Region) (b : Bool)
-          → manualAmong start (take (processedOf (cond b (writeWords st start (q .last) 0 (take many ws)) (out st NoAccess) .answer)) ws) ≡ Nobody
-          → Counted st (cond b (writeWords st start (q .last) 0 (take many ws)) (out st NoAccess) .state)
-          (doesAt (0x4220 + level) start (take (processedOf (cond b (writeWords st start (q .last) 0 (take many ws)) (out st NoAccess) .answer)) ws)) 0
-      may q true e = most q _ refl e
-      may q false e = none-done st f
-
-      go : (b : Bool) (r : Found) → manualAmong start (take (processedOf (cond b (out st BadCount) (writeIn st start many ws r) .answer)) ws) ≡ Nobody
-          → Counted st (cond b (out st BadCount) (writeIn st start many ws r) .state)
-          (doesAt (0x4220 + level) start (take (processedOf (cond b (out st BadCount) (writeIn st start many ws r) .answer)) ws)) 0
-      go true r e = none-done st f
-      go false Nothing e = none-done st f
-      go false (At q) e = may q (writable (q .access)) e
+  write-count : (st : State) (start count : ℕ) (ws : List ℕ) → length (st .card .counts) ≡ 32 → manualAmong start (wordsDone st start count ws) ≡ Nobody
+      → Counted st (writeOf st start count ws .state) (doesAt (0x4220 + level) start (wordsDone st start count ws)) 0
+  write-count =
+      write-by (λ st a vs z. length (st .card .counts) ≡ 32 → manualAmong a vs ≡ Nobody → Counted st z (doesAt (0x4220 + level) a vs) 0)
+      (λ st a f q. none-done st f)
+      (λ st a v vs z p r f q. let y = none-first a v vs q in
+      let w = word-count st a v _ f (y .0) (passed-does st a v p) in
+      both st _ z (eqb a (0x4220 + level)) (doesAt (0x4220 + level) (a + 1) vs) w (r (w .many) (y .1)))
 
   -- ---- any act
 
@@ -279,27 +146,27 @@ module _ (level : ℕ) (inside : level < 32) where
       go (Level l) = struck-right (advanced st) l event n (advanced-right st n h)
       go Nobody = advanced-right st n h
 
-  write-right : (st : State) (start many : ℕ) (ws : List ℕ) (n : ℕ) → Right st n
-      → Right (act st (Write start many ws)) (tally (triggerBy st (Write start many ws)) (clears st level (Write start many ws)) level n)
-  write-right st start many ws n h = go (triggerBy st (Write start many ws)) refl
+  write-right : (st : State) (start count : ℕ) (ws : List ℕ) (n : ℕ) → Right st n
+      → Right (act st (Write start count ws)) (tally (triggerBy st (Write start count ws)) (clears st level (Write start count ws)) level n)
+  write-right st start count ws n h = go (triggerBy st (Write start count ws)) refl
     where
-      by : (b : Bool) → Counted st (writeOf st start many ws .state) b 0 → Right (writeOf st start many ws .state) (cond b 0 n)
+      by : (b : Bool) → Counted st (writeOf st start count ws .state) b 0 → Right (writeOf st start count ws .state) (cond b 0 n)
       by true p = record { many = p .many; is = p .is }
       by false p = record { many = p .many; is = p .is ∙ h .is }
 
-      go : (r : Holder) → triggerBy st (Write start many ws) ≡ r → Right (writeOf st start many ws .state) (tally r (clears st level (Write start many ws)) level n)
-      go (Level l) e = rw (manual-write st start many ws l e) (struck-right st l 0xFE n h)
-      go Nobody e = by (clears st level (Write start many ws)) (write-count st start many ws (h .many) e)
+      go : (r : Holder) → triggerBy st (Write start count ws) ≡ r → Right (writeOf st start count ws .state) (tally r (clears st level (Write start count ws)) level n)
+      go (Level l) e = rw (manual-write st start count ws l e) (struck-right st l 0xFE n h)
+      go Nobody e = by (clears st level (Write start count ws)) (write-count st start count ws (h .many) e)
 
   reset-right : (s l : List ℕ) → Right (resetOf s l) 0
   unfolding cardReset
   reset-right s l = record { many = refl; is = rw (lt-ltb level 32 inside) (getD-replicate {A = ℕ} 32 level 0 0 inside) }
 
-  acts-right : (st : State) (xs : List Act) (n : ℕ) → Right st n → Right (acts st xs) (since level st xs n)
+  acts-right : (st : State) (xs : List Act) (n : ℕ) → Right st n → Right (acts st xs) (triggersSince level st xs n)
   acts-right st [] n h = h
   acts-right st (Tick event ∷ xs) n h = acts-right (act st (Tick event)) xs _ (tick-right st event n h)
-  acts-right st (Write start many ws ∷ xs) n h = acts-right (act st (Write start many ws)) xs _ (write-right st start many ws n h)
-  acts-right st (Read start many ws ∷ xs) n h = acts-right st xs n h
+  acts-right st (Write start count ws ∷ xs) n h = acts-right (act st (Write start count ws)) xs _ (write-right st start count ws n h)
+  acts-right st (Read start count ws ∷ xs) n h = acts-right st xs n h
   acts-right st (Reset ∷ xs) n h = acts-right (act st Reset) xs 0 (reset-right (st .settings) (st .tables))
 
 -- A LEVEL'S COUNT IS THE NUMBER OF ITS ACCEPTED TRIGGERS SINCE ITS LAST CLEARING

@@ -37,7 +37,7 @@ module _ (x : State) (a v : ℕ) where
   by-register R.Manual e i p = Triggers i (leb-true v 31 (p .value)) refl
   by-register R.ActiveLevel e i p = absurd (true≢false (sym (p .value)))
   by-register R.ActiveEvent e i p = absurd (true≢false (sym (p .value)))
-  by-register (R.Count l) e i p = ClearsCount l i refl
+  by-register (R.Count l) e i p = ClearsCount l (i .0) (i .1) refl
   by-register R.Unlisted e i p = absurd (true≢false (sym (p .value)))
 
   pub passed-does : Passed (x .settings) (x .card) (registerOf a) v → Does x a v (performOf x a (effectOf (registerOf a) v))

@@ -1,4 +1,4 @@
--- The registers of the fixed words, of the scale factors and of the slots, each found in its row. Assumes nothing.
+-- The registers of the fixed words, of the scale factors and of the ramp map, each found in its row. Assumes nothing.
 use mathlib.Core.Path.{_≡_, refl, sym, ap, _∙_}
 use mathlib.Core.Bool.{Bool, true, false, cond}
 use mathlib.Core.List.{List}
@@ -16,19 +16,7 @@ use Rattle.map.proofs.Rows.{found, in-row-k}
 use Rattle.map.proofs.Values.{free}
 use Rattle.map.proofs.Blocks.{channel-ordered, card-ordered, in-card, channel-register, channel-accepted}
 use Rattle.transfer.specs.Word.{fixedAt}
-
--- a slot's register names its level
-pub slot-register : (a : ℕ) → 0x4000 ≤ a → a < 0x4100 → registerOf a ≡ R.Slot ((a - 0x4000) / 8)
-unfolding cardRows
-slot-register a f g = rw (in-card a f) (sym (in-row-k (a / 0x1000) cardRows card-ordered 0 a (omega arith) f (omega arith)))
-
--- row k of a channel's rows, at offset o
-channel-row : (c o k : ℕ) → c < 4 → o < 0x1000 → k < length channelRows → getD channelRows k noRow .region .first ≤ o → o ≤ getD channelRows k noRow .region .last
-    → registerOf (base c + o) ≡ getD channelRows k noRow .meaning c (o - getD channelRows k noRow .region .first)
-channel-row c o k h l n f g =
-    let d : (base c + o) / 0x1000 ≡ c = omega arith in
-    let m : (base c + o) % 0x1000 ≡ o = omega arith in
-    rw (channel-register (base c + o) (omega arith), d, m) (sym (in-row-k c channelRows channel-ordered k o n f g))
+use Rattle.history.proofs.Addresses.{channel-row}
 
 -- a word before the first `n` of a row of settings is fixed
 fixed-in : (n : ℕ) (s : ℕ → Setting) (c o : ℕ) → o < n → fixedAt (settings n s c o) ≡ true

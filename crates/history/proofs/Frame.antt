@@ -139,7 +139,7 @@ trigger-lengths x level event =
           ∙ trigger-length (x .settings) (x .tables) 0 _ level;
     }
 
-lengths-done : (x : State) (a : ℕ) (e : Effect) → SameLengths x (performOf x a e)
+pub lengths-done : (x : State) (a : ℕ) (e : Effect) → SameLengths x (performOf x a e)
 lengths-done x a (Keep v) = record { settings = length-set (x .settings) a v; tables = refl }
 lengths-done x a (Output c v) = record { settings = refl; tables = refl }
 lengths-done x a (ClearOverflow c) = record { settings = refl; tables = refl }

@@ -5,12 +5,12 @@ pub mod Transfers
 pub mod Frame
 pub mod Fixed
 pub mod Words
+pub mod Channels
+pub mod Sound
 pub mod Effects
 pub mod Writing
 pub mod Reading
 pub mod Numbers
-pub mod Channels
-pub mod Sound
 pub mod Turns
 pub mod Done
 pub mod Manual

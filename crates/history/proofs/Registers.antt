@@ -1,7 +1,7 @@
 -- The words of a channel's block: settings, the channel's own output, status and overflow count, and nothing of the card's; and a region
 -- that begins in the block ends in it. Each is a rule of the channel's rows. Assumes nothing.
-use mathlib.Core.Path.{_≡_, refl}
-use mathlib.Core.Bool.{Bool, true, false, cond}
+use mathlib.Core.Path.{_≡_, refl, sym}
+use mathlib.Core.Bool.{Bool, true, false, cond, true≢false}
 use mathlib.Core.List.{List}
 use Prim.Native.Nat.{ℕ, _+_, _-_, _/_, _%_, _≤_, _<_}
 use native.Mathlib.Omega.{arith}
@@ -14,6 +14,7 @@ use Rattle.map.specs.declared.Register.the-variants as R
 use Rattle.map.specs.Map.{Row, Hit, hit, miss, scan, channelRows, base, settings, namedIn, foundIn, regionOf, registerOf}
 use Rattle.map.proofs.Rows.{All, scan-all}
 use Rattle.map.proofs.Blocks.{raise, in-channel, channel-register}
+use Rattle.history.specs.Effects.{isSetting}
 use Rattle.history.specs.Frame.{InBlock}
 
 -- a register that channel c's block may have
@@ -83,3 +84,26 @@ pub region-ends : (c a : ℕ) (q : Region) → c < 4 → InBlock c a → regionO
 region-ends c a q h i e =
     let d : a / 0x1000 ≡ c = omega arith in
     ends (scan channelRows (a % 0x1000)) (base c) (a % 0x1000) q refl (rw (in-channel a (omega arith), d) at e)
+
+-- ---- the settings
+
+-- a setting's register is one of three
+pub data Kept (r : Register) : Type 0 where
+  plain : (s : Setting) → r ≡ R.Setting s → Kept r
+  fixed : (s : Setting) → r ≡ R.Fixed s → Kept r
+  slot : (l : ℕ) → r ≡ R.Slot l → Kept r
+
+pub kept : (r : Register) → isSetting r ≡ true → Kept r
+kept (R.Setting s) e = plain s refl
+kept (R.Fixed s) e = fixed s refl
+kept (R.Output c) e = absurd (true≢false (sym e))
+kept (R.Status c f) e = absurd (true≢false (sym e))
+kept (R.Overflow c) e = absurd (true≢false (sym e))
+kept (R.Slot l) e = slot l refl
+kept (R.Image i) e = absurd (true≢false (sym e))
+kept R.Erase e = absurd (true≢false (sym e))
+kept R.Manual e = absurd (true≢false (sym e))
+kept R.ActiveLevel e = absurd (true≢false (sym e))
+kept R.ActiveEvent e = absurd (true≢false (sym e))
+kept (R.Count l) e = absurd (true≢false (sym e))
+kept R.Unlisted e = absurd (true≢false (sym e))

@@ -34,7 +34,7 @@ use Rattle.transfer.specs.Word.{judgeOf, effectOf, outputTo, overflowCleared, p
 use Rattle.transfer.specs.Transfer.{writeOf}
 use Rattle.history.specs.Effects.{isSetting}
 use Rattle.history.specs.Sound.{Words, Tables, ShownSound, ChannelSound, CardSound, Sound, Each, Reachable}
-use Rattle.history.proofs.Fixed.{slot-register}
+use Rattle.history.proofs.Addresses.{slot-register}
 use Rattle.history.proofs.Words.{Passed, passed, set-word, stored, erased-words, reset-words}
 use Rattle.history.proofs.Channels.{SideSound, tick-sound, strike-sound}
 use Rattle.history.proofs.Cards.{channel-other, channel-either, count-channels}

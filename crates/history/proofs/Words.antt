@@ -32,7 +32,9 @@ use Rattle.transfer.specs.declared.Verdict.the-variants.{Accepted, Refused}
 use Rattle.transfer.specs.Word.{fixedAt, isLevel, heldAt, runningAt, judgeOf}
 use Rattle.history.specs.Effects.{isSetting}
 use Rattle.history.specs.Sound.{Words}
-use Rattle.history.proofs.Fixed.{slot-register, table0-fixed, scale0-fixed, offset0-fixed, scale-accepts}
+use Rattle.history.proofs.Addresses.{slot-register}
+use Rattle.history.proofs.Registers.{Kept, plain, fixed, slot, kept}
+use Rattle.history.proofs.Fixed.{table0-fixed, scale0-fixed, offset0-fixed, scale-accepts}
 
 -- ---- what an accepted word has passed
 
@@ -176,20 +178,10 @@ zero-setting S.Delay = refl
 zero-setting S.WaveformEnable = refl
 zero-setting S.ClockEnable = refl
 
-zero-allowed : (r : Register) → isSetting r ≡ true → allowed r 0 ≡ true
-zero-allowed (R.Setting s) e = zero-setting s
-zero-allowed (R.Fixed s) e = zero-setting s
-zero-allowed (R.Output c) e = absurd (true≢false (sym e))
-zero-allowed (R.Status c f) e = absurd (true≢false (sym e))
-zero-allowed (R.Overflow c) e = absurd (true≢false (sym e))
-zero-allowed (R.Slot l) e = refl
-zero-allowed (R.Image i) e = absurd (true≢false (sym e))
-zero-allowed R.Erase e = absurd (true≢false (sym e))
-zero-allowed R.Manual e = absurd (true≢false (sym e))
-zero-allowed R.ActiveLevel e = absurd (true≢false (sym e))
-zero-allowed R.ActiveEvent e = absurd (true≢false (sym e))
-zero-allowed (R.Count l) e = absurd (true≢false (sym e))
-zero-allowed R.Unlisted e = absurd (true≢false (sym e))
+zero-allowed : (r : Register) → Kept r → allowed r 0 ≡ true
+zero-allowed r (plain s e) = rw e (zero-setting s)
+zero-allowed r (fixed s e) = rw e (zero-setting s)
+zero-allowed r (slot l e) = rw e
 
 -- an event that is held by no other level, or null
 free-event : (s : List ℕ) (l v : ℕ) → heldAt s (R.Slot l) v ≡ false → (v ≡ 0xFE) ⊎ (otherOf s v l ≡ Nobody)
@@ -269,7 +261,7 @@ reset-words s l =
       small = λ a. reset-word (λ y. y < 65536) s a l (λ f g. omega arith) (λ c h i. omega arith) (λ o n. omega arith);
       accepted =
           λ a e. reset-word (λ y. acceptedAt a y ≡ true) s a l (slot-accepts a) (λ c h i. scale-accepts c a 0x0100 h (i .0) (i .1))
-          (λ o n. accepted-is a 0 ∙ zero-allowed (registerOf a) e);
+          (λ o n. accepted-is a 0 ∙ zero-allowed (registerOf a) (kept (registerOf a) e));
       table0 =
           λ c i f g. reset-word (λ y. y ≡ 0) s (tableAt c 0 + i) l (λ u v. absurd (omega arith)) (λ d h j. absurd (omega arith)) (λ o n. refl);
       scale0 =

@@ -200,7 +200,7 @@ written st start count ws = go (badCount count (length ws)) refl (regionOf start
     go false e (At q) = may q e (writable (q .access)) refl
 
 -- a write that starts in no region does no word
-no-region : (st : State) (start count : ℕ) (ws : List ℕ) → regionOf start ≡ Nothing → wordsDone st start count ws ≡ []
+pub no-region : (st : State) (start count : ℕ) (ws : List ℕ) → regionOf start ≡ Nothing → wordsDone st start count ws ≡ []
 unfolding writeOf
 no-region st start count ws e = rw e (go (badCount count (length ws)))
   where

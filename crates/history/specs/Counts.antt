@@ -28,12 +28,12 @@ tally (Level l) cleared level n = cond (eqb level l) (n + 1) n
 tally Nobody cleared level n = cond cleared 0 n
 
 -- the accepted triggers of a level since its last clearing or reset, with n before the acts
-abbrev pub since : ℕ → State → List Act → ℕ → ℕ
-since level st [] n = n
-since level st (x ∷ xs) n = since level (act st x) xs (tally (triggerBy st x) (clears st level x) level n)
+abbrev pub triggersSince : ℕ → State → List Act → ℕ → ℕ
+triggersSince level st [] n = n
+triggersSince level st (x ∷ xs) n = triggersSince level (act st x) xs (tally (triggerBy st x) (clears st level x) level n)
 
 -- after any history of a card that was reset
 unfoldable pub CountsRight : Type 0
 CountsRight =
     (s l : List ℕ) (xs : List Act) (level : ℕ) → level < 32
-    → countOf (acts (resetOf s l) xs .card) level ≡ since level (resetOf s l) xs 0 % 65536
+    → countOf (acts (resetOf s l) xs .card) level ≡ triggersSince level (resetOf s l) xs 0 % 65536

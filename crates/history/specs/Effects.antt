@@ -41,7 +41,7 @@ pub data Does (x : State) (a v : ℕ) (y : State) : Type 0 where
   -- A39 and a level's count: 'any, sets 0'
   ClearsOverflow : (c : ℕ) → c < 4 → a ≡ base c + 0xA39
       → y ≡ state (withChannel (x .card) c (overflowCleared (channelOf (x .card) c))) (x .settings) (x .tables) → Does x a v y
-  ClearsCount : (level : ℕ) → a ≡ 0x4220 + level → y ≡ state (withCount (x .card) level 0) (x .settings) (x .tables) → Does x a v y
+  ClearsCount : (level : ℕ) → level < 32 → a ≡ 0x4220 + level → y ≡ state (withCount (x .card) level 0) (x .settings) (x .tables) → Does x a v y
   -- 0x4201: '1 sets every slot to FE, 0 does nothing'
   Erases : a ≡ 0x4201 → v ≡ 1 → y ≡ state (x .card) (erased (x .settings)) (x .tables) → Does x a v y
   Idles : a ≡ 0x4201 → v ≡ 0 → y ≡ x → Does x a v y

@@ -2,14 +2,14 @@
 use mathlib.Core.Path.{_≡_}
 use mathlib.Core.Bool.{Bool, true, false, _&&_, cond}
 use mathlib.Core.List.{List, [], _∷_}
-use Prim.Native.Nat.{ℕ, _+_, _%_, _<_}
+use Prim.Native.Nat.{ℕ, _+_, _%_}
 use lib.Dec.{eqb, leb, ltb}
 use lib.ListN.{length}
 use Rattle.map.specs.Map.{registerOf}
-use Rattle.channel.specs.Channel.{word}
 use Rattle.card.specs.Card.{State}
+use Rattle.card.specs.Reset.{resetOf}
 use Rattle.history.specs.Effects.{isSetting}
-use Rattle.history.specs.History.{Act, Tick, Write, Read, Reset, act, acts, wordsDone}
+use Rattle.history.specs.History.{Act, Tick, Write, Read, Reset, act, acts, readBack, wordsDone}
 
 -- 'trigger slots', 'scale factors'
 abbrev pub isSlot : ℕ → Bool
@@ -42,8 +42,10 @@ abbrev pub lastWord : ℕ → State → List Act → ℕ → ℕ
 lastWord b st [] w = w
 lastWord b st (x ∷ xs) w = lastWord b (act st x) xs (leftBy b st x w)
 
--- at every address that has a setting, after any history
-unfoldable pub SettingsKept : Type 0
-SettingsKept =
-    (st : State) → length (st .settings) ≡ 16960 → (b : ℕ) → b < 16960 → isSetting (registerOf b) ≡ true
-    → (xs : List Act) → word (acts st xs .settings) b ≡ lastWord b st xs (word (st .settings) b)
+-- at every address that has a setting
+pub record SettingsKept : Type 0 where
+  -- after any history the last word done there, or what an erase or a reset left
+  pub kept : (st : State) → length (st .settings) ≡ 16960 → (b : ℕ) → isSetting (registerOf b) ≡ true
+      → (xs : List Act) → readBack (acts st xs) b ≡ lastWord b st xs (readBack st b)
+  -- 'else its reset value'
+  pub fresh : (s l : List ℕ) → length s ≡ 16960 → (b : ℕ) → isSetting (registerOf b) ≡ true → readBack (resetOf s l) b ≡ resetWord b
