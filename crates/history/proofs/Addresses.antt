@@ -136,6 +136,10 @@ image-register e h =
     let d : 0x4100 + e - 0x4100 ≡ e = omega arith in
     card-row (0x4100 + e) 1 (omega arith) (omega arith) (omega arith) (omega arith) ∙ ap R.Image d
 
+pub clock-register : registerOf 0x4200 ≡ R.Setting S.ClockEnable
+unfolding cardRows
+clock-register = card-row 0x4200 2 (omega arith) (omega arith) (omega arith) (omega arith)
+
 pub erase-register : registerOf 0x4201 ≡ R.Erase
 unfolding cardRows
 erase-register = card-row 0x4201 3 (omega arith) (omega arith) (omega arith) (omega arith)

@@ -172,4 +172,4 @@ module _ (level : ℕ) (inside : level < 32) where
 -- A LEVEL'S COUNT IS THE NUMBER OF ITS ACCEPTED TRIGGERS SINCE ITS LAST CLEARING
 pub counts-right : CountsRight
 unfolding CountsRight
-counts-right s l xs level h = acts-right level h (resetOf s l) xs 0 (reset-right level h s l) .is
+counts-right s l xs level h = rw (count-register level h) (acts-right level h (resetOf s l) xs 0 (reset-right level h s l) .is)

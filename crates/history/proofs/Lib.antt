@@ -17,3 +17,4 @@ pub mod Manual
 pub mod Demand3
 pub mod Counts
 pub mod Settings
+pub mod Triggers

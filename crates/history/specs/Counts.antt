@@ -6,9 +6,9 @@ use Prim.Native.Nat.{ℕ, _+_, _%_, _<_}
 use lib.Dec.{eqb}
 use Rattle.slots.specs.declared.Holder.{Holder}
 use Rattle.slots.specs.declared.Holder.the-variants.{Level, Nobody}
-use Rattle.card.specs.Card.{State, countOf}
+use Rattle.card.specs.Card.{State}
 use Rattle.card.specs.Reset.{resetOf}
-use Rattle.history.specs.History.{Act, Tick, Write, Read, Reset, act, acts, wordsDone, triggerBy}
+use Rattle.history.specs.History.{Act, Tick, Write, Read, Reset, act, acts, readBack, wordsDone, triggerBy}
 
 -- one of the words done from address a on is done at address b
 abbrev pub doesAt : ℕ → ℕ → List ℕ → Bool
@@ -36,4 +36,4 @@ triggersSince level st (x ∷ xs) n = triggersSince level (act st x) xs (tally (
 unfoldable pub CountsRight : Type 0
 CountsRight =
     (s l : List ℕ) (xs : List Act) (level : ℕ) → level < 32
-    → countOf (acts (resetOf s l) xs .card) level ≡ triggersSince level (resetOf s l) xs 0 % 65536
+    → readBack (acts (resetOf s l) xs) (0x4220 + level) ≡ triggersSince level (resetOf s l) xs 0 % 65536

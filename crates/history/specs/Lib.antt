@@ -3,6 +3,7 @@ pub mod Numbers
 pub mod Effects
 pub mod Frame
 pub mod Sound
+pub mod Triggers
 pub mod Demand3
 pub mod Counts
 pub mod Settings

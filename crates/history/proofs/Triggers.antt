@@ -1,0 +1,192 @@
+-- The triggers of a history are those of the paper's rule (`trigger-rule`); 0x4210 and 0x4211 show the last of them (`active-right`), and
+-- the image shows who holds an event (`image-right`). Assumes nothing.
+use mathlib.Core.Path.{_≡_, refl, sym, ap, _∙_, subst}
+use mathlib.Core.Bool.{Bool, true, false, cond}
+use mathlib.Core.List.{List, [], _∷_}
+use Prim.Native.Nat.{ℕ, zero, suc, _+_, _<_}
+use native.Mathlib.Omega.{arith}
+use lib.Dec.{eqb, ltb}
+use lib.ListN.{length, getD, set}
+use borrow.Author.Tests.{eq-eqb, ne-eqb, eqb-true, eqb-false}
+use Rattle.map.specs.declared.Setting.the-variants as S
+use Rattle.map.specs.declared.Register.{Register}
+use Rattle.map.specs.declared.Register.the-variants as R
+use Rattle.map.specs.Map.{registerOf}
+use Rattle.slots.specs.declared.Holder.{Holder}
+use Rattle.slots.specs.declared.Holder.the-variants.{Level, Nobody}
+use Rattle.slots.specs.Slots.{slotOf, levelOf, holderOf, imageAt}
+use Rattle.slots.proofs.Holders.{Held, level-held, nobody-if, holder-level}
+use Rattle.channel.specs.Channel.{word}
+use Rattle.channel.specs.declared.Channel.{Channel}
+use Rattle.card.specs.declared.Card.{Card}
+use Rattle.card.specs.Card.{State, state, channelOf, withChannel, withCount}
+use Rattle.card.specs.Trigger.{triggerOf, acceptedOf, onEvent}
+use Rattle.card.specs.Tick.{advanced}
+use Rattle.card.specs.Reset.{cardReset, resetOf}
+use Rattle.transfer.specs.Word.{readAt, outputTo, overflowCleared}
+use Rattle.transfer.specs.Transfer.{writeOf}
+use Rattle.history.specs.History.{Act, Tick, Write, Read, Reset, act, acts, readBack, wordsDone, manualAmong, triggerBy}
+use Rattle.history.specs.Effects.{Does, Keeps, Outputs, ClearsOverflow, ClearsCount, Erases, Idles, Triggers}
+use Rattle.history.specs.Sound.{Sound}
+use Rattle.history.specs.Triggers.{Holds, ByClock, ByHand, Accepted, TriggerRule, Active, active, eventBy, activeAfter, lastActive, ActiveShown, ActiveRight, ImageShown, ImageRight}
+use Rattle.history.proofs.Addresses.{clock-register, level-register, event-register, image-register}
+use Rattle.history.proofs.Effects.{passed-does}
+use Rattle.history.proofs.Writing.{write-by}
+use Rattle.history.proofs.Done.{none-first}
+use Rattle.history.proofs.Manual.{manual-write}
+
+-- ---- the rule of clock events
+
+reads-enable : (st : State) → readBack st 0x4200 ≡ word (st .settings) 0x4200
+reads-enable st = rw clock-register
+
+clock-accepted : (st : State) → Sound st → (event level : ℕ) → ByClock st event level → acceptedOf (st .settings) event ≡ Level level
+unfolding acceptedOf
+clock-accepted st h event level b =
+    let e = eq-eqb (word (st .settings) 0x4200) 1 (sym (reads-enable st) ∙ b .enabled) in
+    rw (ne-eqb event 0xFE (b .real), e)
+    (holder-level (st .settings) (h .settings .one) event (b .held .slot) (b .real) (b .held .inside) (b .held .holds) ∙ ap Level (b .held .of))
+
+clock-only : (st : State) (event level : ℕ) → acceptedOf (st .settings) event ≡ Level level → ByClock st event level
+unfolding acceptedOf
+clock-only st event level = go (eqb event 0xFE) refl (eqb (word (st .settings) 0x4200) 1) refl
+  where
+    go : (a : Bool) → eqb event 0xFE ≡ a → (b : Bool) → eqb (word (st .settings) 0x4200) 1 ≡ b
+        → cond a Nobody (cond b (holderOf (st .settings) event) Nobody) ≡ Level level → ByClock st event level
+    go false e true f g =
+        let y = level-held (st .settings) event 32 level g in
+        record {
+          real = eqb-false event 0xFE e;
+          enabled = reads-enable st ∙ eqb-true (word (st .settings) 0x4200) 1 f;
+          held = record { slot = y .slot; inside = y .inside; of = y .level; holds = y .stored };
+        }
+    go true e b f g = let z : _≡_ {A = ℕ} 0 1 = cc in absurd (omega arith)
+    go false e false f g = let z : _≡_ {A = ℕ} 0 1 = cc in absurd (omega arith)
+
+-- ---- the rule of words done at 0x4202
+
+hand-accepted : (a : ℕ) (vs : List ℕ) (level n : ℕ) → n < length vs → a + n ≡ 0x4202 → getD vs n 0 ≡ level → manualAmong a vs ≡ Level level
+hand-accepted a [] level n h e f = absurd (omega arith)
+hand-accepted a (v ∷ vs) level zero h e f = rw (eq-eqb a 0x4202 (omega arith)) (ap Level f)
+hand-accepted a (v ∷ vs) level (suc n) h e f = rw (ne-eqb a 0x4202 (λ d. absurd (omega arith))) (hand-accepted (a + 1) vs level n (omega arith) (omega arith) f)
+
+hand-only : (a : ℕ) (vs : List ℕ) (level : ℕ) → manualAmong a vs ≡ Level level → ByHand a vs level
+hand-only a [] level e = let z : _≡_ {A = ℕ} 0 1 = cc in absurd (omega arith)
+hand-only a (v ∷ vs) level e = go (eqb a 0x4202) refl e (hand-only (a + 1) vs level)
+  where
+    same : Level v ≡ Level level → v ≡ level
+    same f = cc
+
+    later : ByHand (a + 1) vs level → ByHand a (v ∷ vs) level
+    later y = record { place = suc (y .place); inside = omega (arith, y .inside); address = omega (arith, y .address); word = y .word }
+
+    go : (b : Bool) → eqb a 0x4202 ≡ b → cond b (Level v) (manualAmong (a + 1) vs) ≡ Level level
+        → (manualAmong (a + 1) vs ≡ Level level → ByHand (a + 1) vs level) → ByHand a (v ∷ vs) level
+    go true d f r = record { place = 0; inside = omega arith; address = omega (arith, eqb-true a 0x4202 d); word = same f }
+    go false d f r = later (r f)
+
+accepted : (st : State) → Sound st → (x : Act) (level : ℕ) → Accepted st x level → triggerBy st x ≡ Level level
+accepted st h (Tick event) level b = clock-accepted st h event level b
+accepted st h (Write start count ws) level b = hand-accepted start (wordsDone st start count ws) level (b .place) (b .inside) (b .address) (b .word)
+
+only : (st : State) (x : Act) (level : ℕ) → triggerBy st x ≡ Level level → Accepted st x level
+only st (Tick event) level e = clock-only st event level e
+only st (Write start count ws) level e = hand-only start (wordsDone st start count ws) level e
+only st (Read start count ws) level e = let z : _≡_ {A = ℕ} 0 1 = cc in absurd (omega arith)
+only st Reset level e = let z : _≡_ {A = ℕ} 0 1 = cc in absurd (omega arith)
+
+-- THE TRIGGERS OF A HISTORY ARE THOSE OF THE RULE
+pub trigger-rule : TriggerRule
+trigger-rule = record { accepted = accepted; only = only }
+
+-- ---- 0x4210 and 0x4211
+
+abbrev shown : Card → Active
+shown k = active (k .level) (k .event)
+
+channel-active : (k : Card) (c : ℕ) (ch : Channel) → shown (withChannel k c ch) ≡ shown k
+channel-active k c ch = go (ltb c 4)
+  where
+    go : (b : Bool) → shown (cond b (record { channels = set (k .channels) c ch; counts = k .counts; level = k .level; event = k .event }) k) ≡ shown k
+    go true = refl
+    go false = refl
+
+count-active : (k : Card) (l n : ℕ) → shown (withCount k l n) ≡ shown k
+count-active k l n = go (ltb l 32)
+  where
+    go : (b : Bool) → shown (cond b (record { channels = k .channels; counts = set (k .counts) l n; level = k .level; event = k .event }) k) ≡ shown k
+    go true = refl
+    go false = refl
+
+trigger-active : (st : State) (l event : ℕ) → shown (triggerOf st l event .card) ≡ active l event
+unfolding triggerOf
+trigger-active st l event = refl
+
+advanced-active : (st : State) → shown (advanced st .card) ≡ shown (st .card)
+unfolding advanced
+advanced-active st = refl
+
+reset-shown : (s l : List ℕ) → shown (resetOf s l .card) ≡ active 0 0xFE
+unfolding cardReset
+reset-shown s l = refl
+
+word-active : (st : State) (a v : ℕ) (y : State) → (a ≡ 0x4202 → ⊥) → Does st a v y → shown (y .card) ≡ shown (st .card)
+word-active st a v y n (Keeps i e) = ap (λ (x : State). shown (x .card)) e
+word-active st a v y n (Outputs c h i f e) = ap (λ (x : State). shown (x .card)) e ∙ channel-active (st .card) c (outputTo (channelOf (st .card) c) v)
+word-active st a v y n (ClearsOverflow c h i e) = ap (λ (x : State). shown (x .card)) e ∙ channel-active (st .card) c (overflowCleared (channelOf (st .card) c))
+word-active st a v y n (ClearsCount l h i e) = ap (λ (x : State). shown (x .card)) e ∙ count-active (st .card) l 0
+word-active st a v y n (Erases i f e) = ap (λ (x : State). shown (x .card)) e
+word-active st a v y n (Idles i f e) = ap (λ (x : State). shown (x .card)) e
+word-active st a v y n (Triggers i f e) = absurd (n i)
+
+write-active : (st : State) (start count : ℕ) (ws : List ℕ) → manualAmong start (wordsDone st start count ws) ≡ Nobody
+    → shown (writeOf st start count ws .state .card) ≡ shown (st .card)
+write-active =
+    write-by (λ st a vs z. manualAmong a vs ≡ Nobody → shown (z .card) ≡ shown (st .card)) (λ st a q. refl)
+    (λ st a v vs z p r q. let y = none-first a v vs q in r (y .1) ∙ word-active st a v _ (y .0) (passed-does st a v p))
+
+act-active : (st : State) (x : Act) → shown (act st x .card) ≡ activeAfter (triggerBy st x) x (shown (st .card))
+unfolding advanced
+act-active st (Tick event) = go (acceptedOf (st .settings) event)
+  where
+    go : (r : Holder) → shown (onEvent r (advanced st) event .card) ≡ activeAfter r (Tick event) (shown (st .card))
+    go (Level l) = trigger-active (advanced st) l event
+    go Nobody = advanced-active st
+act-active st (Write start count ws) = go (triggerBy st (Write start count ws)) refl
+  where
+    go : (r : Holder) → triggerBy st (Write start count ws) ≡ r → shown (writeOf st start count ws .state .card) ≡ activeAfter r (Write start count ws) (shown (st .card))
+    go (Level l) e = ap (λ (x : State). shown (x .card)) (manual-write st start count ws l e) ∙ trigger-active st l 0xFE
+    go Nobody e = write-active st start count ws e
+act-active st (Read start count ws) = refl
+act-active st Reset = reset-shown (st .settings) (st .tables)
+
+acts-active : (st : State) (xs : List Act) (old : Active) → shown (st .card) ≡ old → shown (acts st xs .card) ≡ lastActive st xs old
+acts-active st [] old e = e
+acts-active st (x ∷ xs) old e = acts-active (act st x) xs (activeAfter (triggerBy st x) x old) (act-active st x ∙ ap (activeAfter (triggerBy st x) x) e)
+
+-- 0x4210 AND 0x4211 SHOW THE LAST ACCEPTED TRIGGER
+pub active-right : ActiveRight
+unfolding ActiveRight
+active-right s l xs = record { level = rw level-register (ap (λ (a : Active). a .level) e); event = rw event-register (ap (λ (a : Active). a .event) e) }
+  where
+    e : shown (acts (resetOf s l) xs .card) ≡ lastActive (resetOf s l) xs (active 0 0xFE)
+    e = acts-active (resetOf s l) xs (active 0 0xFE) (reset-shown s l)
+
+-- ---- the event image
+
+-- THE IMAGE SHOWS WHO HOLDS AN EVENT
+pub image-right : ImageRight
+unfolding ImageRight
+image-right st h event i =
+    record {
+      held = λ level n y. rw (image-register event i, ne-eqb event 0xFE n) (ap imageAt (holder-level (st .settings) (h .settings .one) event (y .slot) n (y .inside) (y .holds) ∙ ap Level (y .of)));
+      null = λ e. rw (image-register event i, eq-eqb event 0xFE e);
+      free = λ n. rw (image-register event i) (go (eqb event 0xFE) (none n));
+    }
+  where
+    none : ((level : ℕ) → Holds (st .settings) level event → ⊥) → holderOf (st .settings) event ≡ Nobody
+    none n = nobody-if (st .settings) event 32 (λ s f g. absurd (n (levelOf s) (record { slot = s; inside = f; of = refl; holds = g })))
+
+    go : (b : Bool) → holderOf (st .settings) event ≡ Nobody → cond b 0 (imageAt (holderOf (st .settings) event)) ≡ 0
+    go true e = refl
+    go false e = rw e
