@@ -46,17 +46,17 @@ held-end s z (suc n) (C.Clear ∷ xs) ys e = held-end s z (suc n) xs ys e
 
 -- ---- a tick and a trigger of the card, on channel c
 
-abbrev TickTurn : State → ℕ → Type 0
+abbrev pub TickTurn : State → ℕ → Type 0
 TickTurn st c = Turn (λ b l ch. tickOf (st .settings) l b ch) (λ b d l ch o. tick-elsewhere (st .settings) l b d ch o) (st .card) (st .tables) c
 
-tick-turn : (st : State) (c : ℕ) → c < 4 → TickTurn st c
+pub tick-turn : (st : State) (c : ℕ) → c < 4 → TickTurn st c
 tick-turn st c h = turn (λ b l ch. tickOf (st .settings) l b ch) (λ b d l ch o. tick-elsewhere (st .settings) l b d ch o) (st .card) (st .tables) c h
 
 quiet-tick : (st : State) (event : ℕ) → triggerBy st (Tick event) ≡ Nobody → act st (Tick event) ≡ advanced st
 unfolding advanced
 quiet-tick st event e = rw e
 
-advanced-four : (st : State) → length (advanced st .card .channels) ≡ 4
+pub advanced-four : (st : State) → length (advanced st .card .channels) ≡ 4
 unfolding advanced onAll
 advanced-four st = refl
 
@@ -65,14 +65,14 @@ tick-goes : (st : State) (c : ℕ) (y : TickTurn st c) → C.run c (tickOf (st .
 unfolding advanced
 tick-goes st c y = y .goes
 
-tick-same : (st : State) (c : ℕ) (y : TickTurn st c) → tickOf (st .settings) (y .mid) c (channelOf (st .card) c) .channel ≡ channelOf (advanced st .card) c
+pub tick-same : (st : State) (c : ℕ) (y : TickTurn st c) → tickOf (st .settings) (y .mid) c (channelOf (st .card) c) .channel ≡ channelOf (advanced st .card) c
 unfolding advanced
 tick-same st c y = y .same
 
-abbrev TriggerTurn : State → ℕ → ℕ → Type 0
+abbrev pub TriggerTurn : State → ℕ → ℕ → Type 0
 TriggerTurn st level c = Turn (λ b l ch. triggered (st .settings) l b ch level) (λ b d l ch o. trigger-elsewhere (st .settings) l b d ch o level) (st .card) (st .tables) c
 
-trigger-turn : (st : State) (level c : ℕ) → c < 4 → TriggerTurn st level c
+pub trigger-turn : (st : State) (level c : ℕ) → c < 4 → TriggerTurn st level c
 trigger-turn st level c h = turn (λ b l ch. triggered (st .settings) l b ch level) (λ b d l ch o. trigger-elsewhere (st .settings) l b d ch o level) (st .card) (st .tables) c h
 
 trigger-goes : (st : State) (level event c : ℕ) (y : TriggerTurn st level c)
@@ -82,7 +82,14 @@ trigger-goes st level event c y =
     let k : Card = withChannels (st .card) (struck st level .channels) in
     y .goes ∙ rw (count-channels k level (grown (countOf k level)))
 
-trigger-four : (st : State) (level event : ℕ) → length (triggerOf st level event .card .channels) ≡ 4
+pub trigger-same : (st : State) (level event c : ℕ) (y : TriggerTurn st level c)
+    → triggered (st .settings) (y .mid) c (channelOf (st .card) c) level .channel ≡ channelOf (triggerOf st level event .card) c
+unfolding triggerOf
+trigger-same st level event c y =
+    let k : Card = withChannels (st .card) (struck st level .channels) in
+    y .same ∙ rw (count-channels k level (grown (countOf k level)))
+
+pub trigger-four : (st : State) (level event : ℕ) → length (triggerOf st level event .card .channels) ≡ 4
 unfolding triggerOf onAll
 trigger-four st level event =
     let k : Card = withChannels (st .card) (struck st level .channels) in
@@ -92,7 +99,7 @@ trigger-settings : (st : State) (level event : ℕ) → triggerOf st level event
 unfolding triggerOf
 trigger-settings st level event = refl
 
-advanced-settings : (st : State) → advanced st .settings ≡ st .settings
+pub advanced-settings : (st : State) → advanced st .settings ≡ st .settings
 unfolding advanced
 advanced-settings st = refl
 

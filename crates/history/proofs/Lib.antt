@@ -18,3 +18,4 @@ pub mod Demand3
 pub mod Counts
 pub mod Settings
 pub mod Triggers
+pub mod Story

@@ -68,15 +68,15 @@ one-word st a v (w ∷ []) e h f =
     same g = cc
 one-word st a v (w ∷ x ∷ vs) e h f = absurd (omega arith)
 
--- A WRITE THAT DOES A WORD AT 0x4202 IS THE MANUAL TRIGGER
-pub manual-write : (st : State) (start count : ℕ) (ws : List ℕ) (v : ℕ)
-    → manualAmong start (wordsDone st start count ws) ≡ Level v → writeOf st start count ws .state ≡ triggerOf st v 0xFE
-manual-write st start count ws v f = y .done ∙ go (regionOf start) refl y
-  where
-    y : Result (regionOf start) st start count ws (writeOf st start count ws)
-    y = written st start count ws
+-- A WRITE THAT DOES A WORD AT 0x4202 STARTS THERE AND DOES THAT WORD ALONE
+pub record Alone (start : ℕ) (done : List ℕ) : Type 0 where
+  pub here : start ≡ 0x4202
+  pub few : length done ≤ 1
 
-    go : (r : Found) → regionOf start ≡ r → Result r st start count ws (writeOf st start count ws) → doneFrom st start (wordsDone st start count ws) ≡ triggerOf st v 0xFE
+pub manual-alone : (st : State) (start count : ℕ) (ws : List ℕ) (v : ℕ) → manualAmong start (wordsDone st start count ws) ≡ Level v → Alone start (wordsDone st start count ws)
+manual-alone st start count ws v f = go (regionOf start) refl (written st start count ws)
+  where
+    go : (r : Found) → regionOf start ≡ r → Result r st start count ws (writeOf st start count ws) → Alone start (wordsDone st start count ws)
     go Nothing e y =
         let n : Nobody ≡ Level v = ap (manualAmong start) (sym (no-region st start count ws e)) ∙ f in
         let z : _≡_ {A = ℕ} 0 1 = cc in
@@ -86,4 +86,11 @@ manual-write st start count ws v f = y .done ∙ go (regionOf start) refl y
         let i = inside q st start (wordsDone st start count ws) (y .all q refl) (omega arith) in
         let x = lies start q e in
         let z = alone q (same-region start 0x4202 q e (omega arith) (omega arith)) in
-        one-word st start v (wordsDone st start count ws) (omega arith) (omega arith) f
+        record { here = omega arith; few = omega arith }
+
+-- AND IS THE MANUAL TRIGGER
+pub manual-write : (st : State) (start count : ℕ) (ws : List ℕ) (v : ℕ)
+    → manualAmong start (wordsDone st start count ws) ≡ Level v → writeOf st start count ws .state ≡ triggerOf st v 0xFE
+manual-write st start count ws v f =
+    let y = manual-alone st start count ws v f in
+    written st start count ws .done ∙ one-word st start v (wordsDone st start count ws) (y .here) (y .few) f

@@ -32,8 +32,9 @@ use Rattle.transfer.specs.declared.Effect.{Effect}
 use Rattle.transfer.specs.declared.Effect.the-variants.{Keep, Output, ClearOverflow, ClearCount, Erase, Trigger, Nothing}
 use Rattle.transfer.specs.Word.{judgeOf, effectOf, outputTo, overflowCleared, performOf, onVerdict, writeWord}
 use Rattle.transfer.specs.Transfer.{writeOf}
+use Rattle.history.specs.History.{Act, Tick, Write, Read, Reset, acts, Each, Words16}
 use Rattle.history.specs.Effects.{isSetting}
-use Rattle.history.specs.Sound.{Words, Tables, ShownSound, ChannelSound, CardSound, Sound, Each, Reachable}
+use Rattle.history.specs.Sound.{Words, Tables, ShownSound, ChannelSound, CardSound, Sound, Reachable}
 use Rattle.history.proofs.Addresses.{slot-register}
 use Rattle.history.proofs.Words.{Passed, passed, set-word, stored, erased-words, reset-words}
 use Rattle.history.proofs.Channels.{SideSound, tick-sound, strike-sound}
@@ -320,15 +321,20 @@ unfolding ticks
 ticks-sound zero st h = h
 ticks-sound (suc n) st h = ticks-sound n (advanced st) (advanced-sound st h)
 
+write-sound : (st : State) (start count : ℕ) (ws : List ℕ) → Each (λ v. v < 65536) ws → Sound st → Sound (writeOf st start count ws .state)
+write-sound st start count ws w h = write-keeps Sound (λ v. v < 65536) st start count ws w (λ q e x a v f g i p. word-sound x p a v i) h
+
+tick-sound-card : (st : State) (event : ℕ) → Sound st → Sound (tickWith st event)
+tick-sound-card st event h = event-sound (advanced st) (advanced-sound st h) event
+
+acts-sound : (st : State) (xs : List Act) → Words16 xs → Sound st → Sound (acts st xs)
+acts-sound st [] w h = h
+acts-sound st (Tick event ∷ xs) w h = acts-sound (tickWith st event) xs w (tick-sound-card st event h)
+acts-sound st (Write start count ws ∷ xs) w h = acts-sound (writeOf st start count ws .state) xs (w .1) (write-sound st start count ws (w .0) h)
+acts-sound st (Read start count ws ∷ xs) w h = acts-sound st xs w h
+acts-sound st (Reset ∷ xs) w h =
+    acts-sound (resetOf (st .settings) (st .tables)) xs w (reset-sound (st .settings) (st .tables) (h .settings .many) (h .tables .many))
+
 -- THE STATES THAT THE CARD COMES TO ARE SOUND
 pub reachable : Reachable
-reachable =
-    record {
-      reset = reset-sound;
-      tick = λ st event h. event-sound (advanced st) (advanced-sound st h) event;
-      ticks = ticks-sound;
-      write =
-          λ st start count ws w h. write-keeps Sound (λ v. v < 65536) st start count ws w
-          (λ q e x a v f g i p. word-sound x p a v i)
-          h;
-    }
+reachable = record { reset = reset-sound; tick = tick-sound-card; ticks = ticks-sound; write = write-sound; history = acts-sound }

@@ -17,7 +17,7 @@ use Rattle.transfer.specs.declared.Verdict.the-variants as D
 use Rattle.transfer.specs.declared.Answer.the-variants.{Beyond, NoAccess, BadCount}
 use Rattle.transfer.specs.Word.{writeWord}
 use Rattle.transfer.specs.Transfer.{Out, out, badCount, writable, goOn, writeWords, writeIn, writeOf}
-use Rattle.history.specs.Sound.{Each}
+use Rattle.history.specs.History.{Each}
 
 pub each-take : (Q : ℕ → Type 0) (n : ℕ) (vs : List ℕ) → Each Q vs → Each Q (take n vs)
 each-take Q zero vs e = tt

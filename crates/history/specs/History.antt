@@ -2,7 +2,7 @@
 use mathlib.Core.Path.{_≡_}
 use mathlib.Core.Bool.{Bool, true, false, cond}
 use mathlib.Core.List.{List, [], _∷_}
-use Prim.Native.Nat.{ℕ, zero, suc, _+_}
+use Prim.Native.Nat.{ℕ, zero, suc, _+_, _<_}
 use lib.Dec.{eqb}
 use lib.ListN.{take}
 use Rattle.slots.specs.declared.Holder.{Holder}
@@ -37,6 +37,18 @@ acts st (x ∷ xs) = acts (act st x) xs
 -- the word that a read gives at an address
 abbrev pub readBack : State → ℕ → ℕ
 readBack st a = readWord (st .settings) (st .card) a
+
+-- 'words have 16 bits': those of every write
+abbrev pub Each : (ℕ → Type 0) → List ℕ → Type 0
+Each Q [] = Unit
+Each Q (v ∷ vs) = Q v × Each Q vs
+
+abbrev pub Words16 : List Act → Type 0
+Words16 [] = Unit
+Words16 (Tick event ∷ xs) = Words16 xs
+Words16 (Write start count ws ∷ xs) = Each (λ v. v < 65536) ws × Words16 xs
+Words16 (Read start count ws ∷ xs) = Words16 xs
+Words16 (Reset ∷ xs) = Words16 xs
 
 -- ---- the words of a write
 

@@ -4,6 +4,7 @@ pub mod Effects
 pub mod Frame
 pub mod Sound
 pub mod Triggers
+pub mod Story
 pub mod Demand3
 pub mod Counts
 pub mod Settings

@@ -1,7 +1,7 @@
 -- The states that the card comes to: what a reset makes, and every call keeps.
 use mathlib.Core.Path.{_≡_}
 use mathlib.Core.Bool.{Bool, true, false}
-use mathlib.Core.List.{List, [], _∷_}
+use mathlib.Core.List.{List}
 use Prim.Native.Nat.{ℕ, _+_, _≤_, _<_}
 use lib.ListN.{length}
 use Rattle.map.specs.Map.{registerOf, acceptedAt}
@@ -21,6 +21,7 @@ use Rattle.card.specs.Card.{State, channelOf, countOf}
 use Rattle.card.specs.Tick.{tickWith, ticks}
 use Rattle.card.specs.Reset.{resetOf}
 use Rattle.transfer.specs.Transfer.{writeOf}
+use Rattle.history.specs.History.{Act, acts, Each, Words16}
 use Rattle.history.specs.Effects.{isSetting}
 
 -- the settings, by address
@@ -97,14 +98,10 @@ pub record Sound (st : State) : Type 0 where
   pub tables : Tables (st .tables)
   pub card : CardSound (st .card)
 
--- a rule of every word of a list
-abbrev pub Each : (ℕ → Type 0) → List ℕ → Type 0
-Each Q [] = Unit
-Each Q (v ∷ vs) = Q v × Each Q vs
-
--- a reset makes it, of any lent lists of the card's lengths; a tick with any event, any ticks, and any write keep it
+-- a reset makes it, of any lent lists of the card's lengths; a tick with any event, any ticks, any write and any history keep it
 pub record Reachable : Type 0 where
   pub reset : (s l : List ℕ) → length s ≡ 16960 → length l ≡ 512 → Sound (resetOf s l)
   pub tick : (st : State) (event : ℕ) → Sound st → Sound (tickWith st event)
   pub ticks : (n : ℕ) (st : State) → Sound st → Sound (ticks n st)
   pub write : (st : State) (start count : ℕ) (ws : List ℕ) → Each (λ v. v < 65536) ws → Sound st → Sound (writeOf st start count ws .state)
+  pub history : (st : State) (xs : List Act) → Words16 xs → Sound st → Sound (acts st xs)

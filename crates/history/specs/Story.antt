@@ -1,0 +1,128 @@
+-- What a channel's words show after any history: its last load, its last sample, its output, and how many samples overflowed.
+use mathlib.Core.Path.{_≡_}
+use mathlib.Core.Bool.{cond}
+use mathlib.Core.List.{List, [], _∷_, _++_}
+use Prim.Native.Nat.{ℕ, _+_, _-_, _%_, _<_}
+use lib.Dec.{ltb, eqb}
+use lib.ListN.{length}
+use Rattle.sum.specs.declared.Sum.{Sum}
+use Rattle.sum.specs.declared.Sum.the-variants.{Word, Overflow}
+use Rattle.map.specs.Map.{base}
+use Rattle.map.specs.Addresses.{enableAt}
+use Rattle.slots.specs.declared.Holder.{Holder}
+use Rattle.slots.specs.declared.Holder.the-variants.{Level, Nobody}
+use Rattle.channel.specs.declared.Place.{Place}
+use Rattle.channel.specs.declared.Loaded.{Loaded}
+use Rattle.channel.specs.declared.Ramp.{Ramp}
+use Rattle.channel.specs.declared.Ramp.the-variants.{Still, Going}
+use Rattle.channel.specs.declared.Phase.{Phase}
+use Rattle.channel.specs.declared.Phase.the-variants.{Rest, Counting, Running}
+use Rattle.channel.specs.declared.Channel.{Channel}
+use Rattle.channel.specs.Ramp.{place, enter, next, sampleAt}
+use Rattle.channel.specs.Channel.{word, firstOf, lead, loadedFor, countdown}
+use Rattle.card.specs.Card.{State, channelOf}
+use Rattle.card.specs.Reset.{resetOf}
+use Rattle.history.specs.History.{Act, Tick, Write, Read, Reset, act, acts, readBack, wordsDone, triggerBy, Words16}
+
+-- ---- what can happen on a channel
+
+pub data Happening : Type 0 where
+  -- table number, scale factor and offset are loaded
+  Load : Loaded → Happening
+  -- a sample is given: its place, and its sum
+  Sample : Place → Sum → Happening
+  -- a word is done at A04, or at A39
+  Output : ℕ → Happening
+  Clear : Happening
+  Fresh : Happening
+
+-- ---- a tick: what happens on channel c, which holds ch, under the settings s and the loaded tables l
+
+abbrev pub sample : List ℕ → ℕ → Channel → Place → List Happening
+sample l c ch p = Sample p (sampleAt l (firstOf c) (ch .loaded) p) ∷ []
+
+-- 'every 10 ticks': a ramp gives its next sample when its wait is over
+abbrev pub byRamp : List ℕ → ℕ → Channel → Ramp → List Happening
+byRamp l c ch Still = []
+byRamp l c ch (Going p t) = cond (ltb 1 (t .0)) [] (sample l c ch (next l (firstOf c) p))
+
+-- 'at countdown 0 the ramp starts if A00 is 1'
+abbrev pub byStart : List ℕ → List ℕ → ℕ → Channel → List Happening
+byStart s l c ch = cond (eqb (word s (enableAt c)) 1) (sample l c ch (enter l (firstOf c) 0)) []
+
+-- 'a load reached by counting comes before that tick's sample, so the old ramp gives none then'
+abbrev pub byTick : Phase → List ℕ → List ℕ → ℕ → Channel → List Happening
+byTick Rest s l c ch = []
+byTick (Counting n older) s l c ch =
+    cond (eqb (n .0 - 1) 0) (byStart s l c ch) (cond (eqb (n .0 - 1) lead) (Load (loadedFor s c (ch .level)) ∷ []) (byRamp l c ch older))
+byTick (Running p t) s l c ch = byRamp l c ch (Going p t)
+
+-- ---- an act
+
+-- a countdown that is set at 10 loads at once
+abbrev pub byTrigger : Holder → List ℕ → ℕ → List Happening
+byTrigger (Level level) s c = cond (eqb (countdown s c level) lead) (Load (loadedFor s c level) ∷ []) []
+byTrigger Nobody s c = []
+
+-- a word done at address a, and words done from there on
+abbrev pub byWord : ℕ → ℕ → ℕ → List Happening
+byWord c a v = cond (eqb a (base c + 0xA04)) (Output v ∷ []) (cond (eqb a (base c + 0xA39)) (Clear ∷ []) [])
+
+abbrev pub byWords : ℕ → ℕ → List ℕ → List Happening
+byWords c a [] = []
+byWords c a (v ∷ vs) = byWord c a v ++ byWords c (a + 1) vs
+
+abbrev pub happens : ℕ → State → Act → List Happening
+happens c st (Tick event) =
+    byTick (channelOf (st .card) c .phase) (st .settings) (st .tables) c (channelOf (st .card) c) ++ byTrigger (triggerBy st (Tick event)) (st .settings) c
+happens c st (Write start count ws) = byTrigger (triggerBy st (Write start count ws)) (st .settings) c ++ byWords c start (wordsDone st start count ws)
+happens c st (Read start count ws) = []
+happens c st Reset = Fresh ∷ []
+
+-- the story of channel c in a history
+abbrev pub story : ℕ → State → List Act → List Happening
+story c st [] = []
+story c st (x ∷ xs) = happens c st x ++ story c (act st x) xs
+
+-- ---- what is shown
+
+pub record Told : Type 0 where
+  pub loaded : Loaded
+  pub place : Place
+  pub output : ℕ
+  pub overflowed : ℕ
+
+-- 'loaded scale factor 0x0100; all else 0'
+abbrev pub fresh : Told
+fresh = record { loaded = record { table = 0; scale = 0x0100; offset = 0 }; place = place 0 0; output = 0; overflowed = 0 }
+
+abbrev pub tell : Told → Happening → Told
+-- 'A33 and A34 become 0'
+tell x (Load ld) = record { loaded = ld; place = place 0 0; output = x .output; overflowed = x .overflowed }
+-- 'A33 and A34 show the last sample's n and m'; 'outside the range the output stays and A39 grows by 1'
+tell x (Sample p (Word v)) = record { loaded = x .loaded; place = p; output = v; overflowed = x .overflowed }
+tell x (Sample p Overflow) = record { loaded = x .loaded; place = p; output = x .output; overflowed = x .overflowed + 1 }
+tell x (Output v) = record { loaded = x .loaded; place = x .place; output = v; overflowed = x .overflowed }
+tell x Clear = record { loaded = x .loaded; place = x .place; output = x .output; overflowed = 0 }
+tell x Fresh = fresh
+
+abbrev pub told : Told → List Happening → Told
+told x [] = x
+told x (h ∷ hs) = told (tell x h) hs
+
+-- the words of channel c read what is told
+pub record Shows (c : ℕ) (st : State) (x : Told) : Type 0 where
+  pub output : readBack st (base c + 0xA04) ≡ x .output
+  pub table : readBack st (base c + 0xA30) ≡ x .loaded .table
+  pub scale : readBack st (base c + 0xA31) ≡ x .loaded .scale
+  pub offset : readBack st (base c + 0xA32) ≡ x .loaded .offset
+  pub segment : readBack st (base c + 0xA33) ≡ x .place .segment
+  pub left : readBack st (base c + 0xA34) ≡ x .place .left .0
+  -- 'grows by 1 (65,535 goes round to 0)'
+  pub overflow : readBack st (base c + 0xA39) ≡ x .overflowed % 65536
+
+-- after any history of a card that was reset, whose words have 16 bits
+unfoldable pub ChannelsRight : Type 0
+ChannelsRight =
+    (s l : List ℕ) → length s ≡ 16960 → length l ≡ 512 → (xs : List Act) → Words16 xs → (c : ℕ) → c < 4
+    → Shows c (acts (resetOf s l) xs) (told fresh (story c (resetOf s l) xs))
