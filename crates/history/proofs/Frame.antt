@@ -39,6 +39,7 @@ but-settings c x s h =
       phase = refl;
       pending = refl;
       loaded = refl;
+      place = refl;
       counts = refl;
       level = refl;
       event = refl;
@@ -56,6 +57,7 @@ but-then c x y z p q =
       phase = q .phase ∙ p .phase;
       pending = q .pending ∙ p .pending;
       loaded = q .loaded ∙ p .loaded;
+      place = q .place ∙ p .place;
       counts = q .counts ∙ p .counts;
       level = q .level ∙ p .level;
       event = q .event ∙ p .event;
@@ -69,13 +71,14 @@ module _ (c : ℕ) (x : State) where
 
   -- the channel's words shown
   but-shown : (ch : Channel) → ch .phase ≡ channelOf (x .card) c .phase → ch .level ≡ channelOf (x .card) c .level → ch .loaded ≡ channelOf (x .card) c .loaded
-      → But c x (state (withChannel (x .card) c ch) (x .settings) (x .tables))
-  but-shown ch p q r =
+      → ch .shown .place ≡ channelOf (x .card) c .shown .place → But c x (state (withChannel (x .card) c ch) (x .settings) (x .tables))
+  but-shown ch p q r u =
       record {
         others = λ j d. channel-other (x .card) c ch j d;
         phase = channel-either (x .card) c ch (λ y. y .phase ≡ channelOf (x .card) c .phase) p refl;
         pending = channel-either (x .card) c ch (λ y. y .level ≡ channelOf (x .card) c .level) q refl;
         loaded = channel-either (x .card) c ch (λ y. y .loaded ≡ channelOf (x .card) c .loaded) r refl;
+        place = channel-either (x .card) c ch (λ y. y .shown .place ≡ channelOf (x .card) c .shown .place) u refl;
         counts = rest-counts (ltb c 4);
         level = rest-level (ltb c 4);
         event = rest-event (ltb c 4);
@@ -101,9 +104,9 @@ module _ (c : ℕ) (x : State) where
   but-done : (r : Register) (a v : ℕ) → Own c r → InBlock c a → But c x (performOf x a (effectOf r v))
   but-done (R.Setting s) a v o i = but-kept a v i
   but-done (R.Fixed s) a v o i = but-none c x
-  but-done (R.Output d) a v o i = rw o (but-shown (outputTo (channelOf (x .card) c) v) refl refl refl)
+  but-done (R.Output d) a v o i = rw o (but-shown (outputTo (channelOf (x .card) c) v) refl refl refl refl)
   but-done (R.Status d f) a v o i = but-none c x
-  but-done (R.Overflow d) a v o i = rw o (but-shown (overflowCleared (channelOf (x .card) c)) refl refl refl)
+  but-done (R.Overflow d) a v o i = rw o (but-shown (overflowCleared (channelOf (x .card) c)) refl refl refl refl)
   but-done R.Unlisted a v o i = but-none c x
 
   but-word : c < 4 → (a v : ℕ) → InBlock c a → But c x (writeWord x a v .state)

@@ -19,3 +19,4 @@ pub mod Counts
 pub mod Settings
 pub mod Triggers
 pub mod Story
+pub mod Demand2

@@ -17,8 +17,7 @@ use Rattle.transfer.specs.declared.Answer.{Answer}
 use Rattle.transfer.specs.declared.Answer.the-variants.{BadCount, NoRegion, NoAccess, Beyond}
 use Rattle.transfer.specs.Word.{readWord}
 use Rattle.transfer.specs.Transfer.{Filled, numberOf, processedOf, badCount, readable, filled, readWords, readIn, readOf}
-use Rattle.history.specs.Numbers.{first, once, readRefusal, Given, Once, Stopped, All}
-use Rattle.history.specs.Numbers as N
+use Rattle.history.specs.Numbers.{first, once, readRefusal, Given, Once, Stopped, All, SliceFilled}
 use Rattle.history.proofs.Writing.{Ends, whole, stop, good-count}
 
 record Scan (q : Region) (s : List ℕ) (k : Card) (a i n : ℕ) (ws : List ℕ) (o : Filled) : Type 0 where
@@ -110,7 +109,7 @@ scan q s k a i (suc n) ws h = go (ltb (q .last) a) refl (scan q s k (a + 1) (i +
 
 pub record ReadSo (r : Found) (st : State) (start count : ℕ) (ws : List ℕ) (o : Filled) : Type 0 where
   pub given : Given (first (once readable r count ws)) (readRefusal r start) count (numberOf (o .answer)) (processedOf (o .answer))
-  pub filled : N.Filled st start (processedOf (o .answer)) ws (o .words)
+  pub filled : SliceFilled st start (processedOf (o .answer)) ws (o .words)
 
 nothing-read : (r : Found) (st : State) (start count : ℕ) (ws : List ℕ) (w : Answer) → first (once readable r count ws) ≡ numberOf w → 1 ≤ numberOf w → processedOf w ≡ 0
     → ReadSo r st start count ws (filled ws w)

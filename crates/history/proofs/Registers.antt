@@ -1,20 +1,21 @@
 -- The words of a channel's block: settings, the channel's own output, status and overflow count, and nothing of the card's; and a region
--- that begins in the block ends in it. Each is a rule of the channel's rows. Assumes nothing.
+-- that begins in the block ends in it; and which words are settings (`settings-are`). Each is a rule of the rows. Assumes nothing.
 use mathlib.Core.Path.{_≡_, refl, sym}
-use mathlib.Core.Bool.{Bool, true, false, cond, true≢false}
+use mathlib.Core.Bool.{Bool, true, false, not, _&&_, cond, true≢false}
 use mathlib.Core.List.{List}
 use Prim.Native.Nat.{ℕ, _+_, _-_, _/_, _%_, _≤_, _<_}
 use native.Mathlib.Omega.{arith}
 use lib.Dec.{ltb}
+use borrow.Author.Tests.{ltb-true, ltb-false}
 use Rattle.map.specs.declared.Region.{Region}
 use Rattle.map.specs.declared.Found.the-variants.{At, Nothing}
 use Rattle.map.specs.declared.Setting.{Setting}
 use Rattle.map.specs.declared.Register.{Register}
 use Rattle.map.specs.declared.Register.the-variants as R
-use Rattle.map.specs.Map.{Row, Hit, hit, miss, scan, channelRows, base, settings, namedIn, foundIn, regionOf, registerOf}
+use Rattle.map.specs.Map.{Row, Hit, hit, miss, scan, channelRows, cardRows, base, settings, namedIn, foundIn, regionOf, registerOf}
 use Rattle.map.proofs.Rows.{All, scan-all}
-use Rattle.map.proofs.Blocks.{raise, in-channel, channel-register}
-use Rattle.history.specs.Effects.{isSetting}
+use Rattle.map.proofs.Blocks.{raise, in-channel, in-card, channel-register}
+use Rattle.history.specs.Effects.{isSetting, readWrite, excepted, SettingsAre}
 use Rattle.history.specs.Frame.{InBlock}
 
 -- a register that channel c's block may have
@@ -107,3 +108,46 @@ kept R.ActiveLevel e = absurd (true≢false (sym e))
 kept R.ActiveEvent e = absurd (true≢false (sym e))
 kept (R.Count l) e = absurd (true≢false (sym e))
 kept R.Unlisted e = absurd (true≢false (sym e))
+
+-- a row's words are settings, if it is RW and they are not excepted
+abbrev Plain : Row → Type 0
+Plain r = (c o : ℕ) → isSetting (r .meaning c o) ≡ readWrite (At (r .region)) && not (excepted (r .meaning c o))
+
+plain-row : (n : ℕ) (s : ℕ → Setting) (c o : ℕ) → isSetting (settings n s c o) ≡ true && not (excepted (settings n s c o))
+plain-row n s c o = go (ltb o n)
+  where
+    go : (b : Bool) → isSetting (cond b (R.Fixed (s o)) (R.Setting (s o))) ≡ true && not (excepted (cond b (R.Fixed (s o)) (R.Setting (s o))))
+    go true = refl
+    go false = refl
+
+channel-plain : All Plain channelRows
+unfolding channelRows
+channel-plain = (
+  plain-row 128 _,
+  (plain-row 0 _, (plain-row 0 _, (plain-row 1 _, (plain-row 0 _, (plain-row 1 _, (plain-row 0 _, (plain-row 0 _, ((λ c o. refl), ((λ c o. refl), ((λ c o. refl), ((λ c o. refl), ((λ c o. refl), ((λ c o. refl), ((λ c o. refl), tt)))))))))))))),
+)
+
+card-plain : All Plain cardRows
+unfolding cardRows
+card-plain = (
+  (λ c o. refl),
+  ((λ c o. refl), (plain-row 0 _, ((λ c o. refl), ((λ c o. refl), ((λ c o. refl), ((λ c o. refl), ((λ c o. refl), tt))))))),
+)
+
+-- SETTINGS ARE THE RW WORDS EXCEPT A04, A39 AND THE LEVEL COUNTS
+pub settings-are : SettingsAre
+unfolding SettingsAre
+settings-are a = go (ltb a 0x4000) refl
+  where
+    in-channel-rows : (h : Hit) (b x : ℕ) → scan channelRows x ≡ h
+        → isSetting (namedIn (raise b h) (a / 0x1000) a) ≡ readWrite (foundIn (raise b h)) && not (excepted (namedIn (raise b h) (a / 0x1000) a))
+    in-channel-rows (hit r) b x e = scan-all Plain channelRows channel-plain x r e (a / 0x1000) (a - (b + r .region .first))
+    in-channel-rows miss b x e = refl
+
+    in-card-rows : (h : Hit) → scan cardRows a ≡ h → isSetting (namedIn h (a / 0x1000) a) ≡ readWrite (foundIn h) && not (excepted (namedIn h (a / 0x1000) a))
+    in-card-rows (hit r) e = scan-all Plain cardRows card-plain a r e (a / 0x1000) (a - r .region .first)
+    in-card-rows miss e = refl
+
+    go : (b : Bool) → ltb a 0x4000 ≡ b → isSetting (registerOf a) ≡ readWrite (regionOf a) && not (excepted (registerOf a))
+    go true e = rw (in-channel a (ltb-true a 0x4000 e)) (in-channel-rows (scan channelRows (a % 0x1000)) (base (a / 0x1000)) (a % 0x1000) refl)
+    go false e = rw (in-card a (ltb-false a 0x4000 e)) (in-card-rows (scan cardRows a) refl)

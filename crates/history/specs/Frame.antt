@@ -12,12 +12,13 @@ use Rattle.transfer.specs.Transfer.{writeOf}
 abbrev pub InBlock : ℕ → ℕ → Type 0
 InBlock c a = (base c ≤ a) × (a < base c + 0x1000)
 
--- y is x but for channel c, and of that channel the ramp, the pending level and what is loaded are as they were
+-- y is x but for channel c, and of that channel the ramp, the pending level, what is loaded and the last place are as they were
 pub record But (c : ℕ) (x y : State) : Type 0 where
   pub others : (j : ℕ) → (j ≡ c → ⊥) → channelOf (y .card) j ≡ channelOf (x .card) j
   pub phase : channelOf (y .card) c .phase ≡ channelOf (x .card) c .phase
   pub pending : channelOf (y .card) c .level ≡ channelOf (x .card) c .level
   pub loaded : channelOf (y .card) c .loaded ≡ channelOf (x .card) c .loaded
+  pub place : channelOf (y .card) c .shown .place ≡ channelOf (x .card) c .shown .place
   pub counts : y .card .counts ≡ x .card .counts
   pub level : y .card .level ≡ x .card .level
   pub event : y .card .event ≡ x .card .event

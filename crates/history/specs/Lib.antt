@@ -8,3 +8,4 @@ pub mod Story
 pub mod Demand3
 pub mod Counts
 pub mod Settings
+pub mod Demand2

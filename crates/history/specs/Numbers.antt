@@ -81,21 +81,23 @@ pub record Exact (o : ℕ) (f : ℕ → ℕ) (count : ℕ) (w : Answer) : Type 0
   pub only : (n p : ℕ) → Given o f count n p → (n ≡ numberOf w) × (p ≡ processedOf w)
 
 -- 'Words before the stopping word are done with all their effects, and nothing else changes.'
-pub record Written (st : State) (start count : ℕ) (ws : List ℕ) : Type 0 where
+pub record WriteAnswered (st : State) (start count : ℕ) (ws : List ℕ) : Type 0 where
   pub exact : Exact (first (once writable (regionOf start) count ws)) (writeRefusal (regionOf start) st start ws) count (writeOf st start count ws .answer)
   pub done : writeOf st start count ws .state ≡ doneFrom st start (take (processedOf (writeOf st start count ws .answer)) ws)
+  -- 8: 'Processed 0'
+  pub eight : numberOf (writeOf st start count ws .answer) ≡ 8 → processedOf (writeOf st start count ws .answer) ≡ 0
 
 -- 'A read fills the slice's first processed words and has no other effect; the rest of the slice stays.'
-pub record Filled (st : State) (start p : ℕ) (ws filled : List ℕ) : Type 0 where
+pub record SliceFilled (st : State) (start p : ℕ) (ws filled : List ℕ) : Type 0 where
   pub long : length filled ≡ length ws
   pub words : (i : ℕ) → i < p → getD filled i 0 ≡ readBack st (start + i)
   pub rest : (i : ℕ) → p ≤ i → getD filled i 0 ≡ getD ws i 0
 
-pub record WasRead (st : State) (start count : ℕ) (ws : List ℕ) : Type 0 where
+pub record ReadAnswered (st : State) (start count : ℕ) (ws : List ℕ) : Type 0 where
   pub exact : Exact (first (once readable (regionOf start) count ws)) (readRefusal (regionOf start) start) count (readOf (st .settings) (st .card) start count ws .answer)
-  pub filled : Filled st start (processedOf (readOf (st .settings) (st .card) start count ws .answer)) ws (readOf (st .settings) (st .card) start count ws .words)
+  pub filled : SliceFilled st start (processedOf (readOf (st .settings) (st .card) start count ws .answer)) ws (readOf (st .settings) (st .card) start count ws .words)
 
 -- DEMAND 1 of every transfer in every state
 pub record Demand1 : Type 0 where
-  pub write : (st : State) (start count : ℕ) (ws : List ℕ) → Written st start count ws
-  pub read : (st : State) (start count : ℕ) (ws : List ℕ) → WasRead st start count ws
+  pub write : (st : State) (start count : ℕ) (ws : List ℕ) → WriteAnswered st start count ws
+  pub read : (st : State) (start count : ℕ) (ws : List ℕ) → ReadAnswered st start count ws
