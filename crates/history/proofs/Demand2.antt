@@ -2,7 +2,7 @@
 use Rattle.history.specs.Demand2.{Demand2}
 use Rattle.history.proofs.Settings.{settings-kept}
 use Rattle.history.proofs.Counts.{counts-right}
-use Rattle.history.proofs.Triggers.{trigger-rule, active-right, image-right}
+use Rattle.history.proofs.Triggers.{trigger-rule, countdowns-set, active-right, image-right}
 use Rattle.history.proofs.Story.{channels-right}
 
 -- DEMAND 2
@@ -12,6 +12,7 @@ demand2 =
       settings = settings-kept;
       counts = counts-right;
       triggers = trigger-rule;
+      countdowns = countdowns-set;
       active = active-right;
       image = image-right;
       channels = channels-right;

@@ -95,7 +95,7 @@ trigger-four st level event =
     let k : Card = withChannels (st .card) (struck st level .channels) in
     rw (count-channels k level (grown (countOf k level)))
 
-trigger-settings : (st : State) (level event : ℕ) → triggerOf st level event .settings ≡ st .settings
+pub trigger-settings : (st : State) (level event : ℕ) → triggerOf st level event .settings ≡ st .settings
 unfolding triggerOf
 trigger-settings st level event = refl
 
@@ -169,11 +169,11 @@ module _ (c : ℕ) (inside : c < 4) where
 -- ---- the trigger
 
 -- an act that is a trigger triggers some state with as much room in the tables
-record Triggers (st : State) (x : Act) (level : ℕ) : Type 0 where
-  from : State
-  event : ℕ
-  is : act st x ≡ triggerOf from level event
-  room : length (from .tables) ≡ length (st .tables)
+pub record Triggers (st : State) (x : Act) (level : ℕ) : Type 0 where
+  pub from : State
+  pub event : ℕ
+  pub is : act st x ≡ triggerOf from level event
+  pub room : length (from .tables) ≡ length (st .tables)
 
 advanced-room : (st : State) → length (advanced st .tables) ≡ length (st .tables)
 advanced-room st =
@@ -184,7 +184,7 @@ advanced-room st =
     ∙ ap (λ (x : Side). length (x .tables)) (sym (y .comes))
     ∙ run-length 0 (sideAt st 0) (y .before)
 
-triggers : (st : State) (x : Act) (level : ℕ) → triggerBy st x ≡ Level level → Triggers st x level
+pub triggers : (st : State) (x : Act) (level : ℕ) → triggerBy st x ≡ Level level → Triggers st x level
 triggers st (Tick event) level e = record { from = advanced st; event = event; is = by; room = advanced-room st }
   where
     by : act st (Tick event) ≡ triggerOf (advanced st) level event

@@ -2,7 +2,7 @@
 -- back the same until a write, an erase or a reset changes it.' Every word that can be read is of one of these.
 use Rattle.history.specs.Settings.{SettingsKept}
 use Rattle.history.specs.Counts.{CountsRight}
-use Rattle.history.specs.Triggers.{TriggerRule, ActiveRight, ImageRight}
+use Rattle.history.specs.Triggers.{TriggerRule, CountdownsSet, ActiveRight, ImageRight}
 use Rattle.history.specs.Story.{ChannelsRight}
 
 pub record Demand2 : Type 0 where
@@ -11,6 +11,8 @@ pub record Demand2 : Type 0 where
   -- 0x4220 to 0x423F, by the triggers accepted, and which those are
   pub counts : CountsRight
   pub triggers : TriggerRule
+  -- what each of them sets
+  pub countdowns : CountdownsSet
   -- 0x4210 and 0x4211
   pub active : ActiveRight
   -- 0x4100 to 0x41FF
