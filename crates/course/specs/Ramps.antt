@@ -6,8 +6,7 @@ use lib.ListN.{length, getD}
 use Rattle.word.specs.Table.{valueAt, stepAt}
 use Rattle.sum.specs.declared.Sum.{Sum}
 use Rattle.sum.specs.declared.Sum.the-variants.{Overflow}
-use Rattle.sum.specs.Ramp.{Point, ramp}
-use Rattle.sum.specs.Ramp as sum
+use Rattle.sum.specs.Ramp.{Point, ramp, rampSteps}
 use Rattle.channel.specs.declared.Loaded.{Loaded}
 use Rattle.channel.specs.Ramp.{sampleAt}
 use Rattle.course.specs.Points.{total, placeOf}
@@ -30,7 +29,7 @@ samplesOf w first l = ramp (l .scale) (l .offset) (pointsOf w first)
 
 pub record InOrder (w : List ℕ) (first : ℕ) (l : Loaded) : Type 0 where
   -- T is the sum of the time steps before the end point
-  pub steps : sum.stepsBefore (pointsOf w first) ≡ total w first
+  pub steps : rampSteps (pointsOf w first) ≡ total w first
   -- there are T + 1 samples
   pub many : length (samplesOf w first l) ≡ total w first + 1
   -- and sample k is the one at its place

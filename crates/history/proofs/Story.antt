@@ -43,7 +43,7 @@ use Rattle.course.proofs.Walk as W
 use Rattle.history.specs.History.{Act, Tick, Write, Read, Reset, act, acts, readBack, wordsDone, manualAmong, triggerBy, Words16}
 use Rattle.history.specs.Effects.{isSetting, Does, Keeps, Outputs, ClearsOverflow, ClearsCount, Erases, Idles, Triggers}
 use Rattle.history.specs.Sound.{Sound, PhaseSound, RampSound, Reachable}
-use Rattle.history.specs.Story.{Happening, Load, Sample, Output, Clear, Fresh, sample, byRamp, byStart, byTick, byTrigger, byWord, byWords, happens, story, Told, fresh, tell, told, Shows, ChannelsRight}
+use Rattle.history.specs.Story.{Happening, Load, Sample, Output, Clear, Fresh, sample, byRamp, byStart, byTick, byTrigger, byWord, byWords, happens, story, Told, fresh, tell, told, Shows, ChannelsRight, AtRest}
 use Rattle.history.proofs.Addresses.{output-register, table-register, scale-register, offset-register, segment-register, left-register, overflow-register}
 use Rattle.history.proofs.Cards.{channel-same, channel-other, channel-many, count-channels}
 use Rattle.history.proofs.Sound.{reachable}
@@ -181,6 +181,14 @@ untimed c x (C.Elsewhere l ∷ ys) e h i f =
 untimed c x (C.Output v ∷ ys) e h i f = untimed c (C.act c x (C.Output v)) ys e h i f
 untimed c x (C.Clear ∷ ys) e h i f = untimed c (C.act c x C.Clear) ys e h i f
 
+four-fresh : (k : ℕ) → k < 4 → channelOf cardReset k ≡ resetChannel
+unfolding cardReset
+four-fresh zero h = refl
+four-fresh (suc zero) h = refl
+four-fresh (suc (suc zero)) h = refl
+four-fresh (suc (suc (suc zero))) h = refl
+four-fresh (suc (suc (suc (suc k)))) h = absurd (omega arith)
+
 -- ---- the card's channel c
 
 module _ (c : ℕ) (inside : c < 4) where
@@ -284,14 +292,6 @@ module _ (c : ℕ) (inside : c < 4) where
 
   -- ---- any act
 
-  four-fresh : (k : ℕ) → k < 4 → channelOf cardReset k ≡ resetChannel
-  unfolding cardReset
-  four-fresh zero h = refl
-  four-fresh (suc zero) h = refl
-  four-fresh (suc (suc zero)) h = refl
-  four-fresh (suc (suc (suc zero))) h = refl
-  four-fresh (suc (suc (suc (suc k)))) h = absurd (omega arith)
-
   reset-right : (s l : List ℕ) → Right (channelOf (resetOf s l .card) c) fresh
   reset-right s l = rw (four-fresh c inside) (record { loaded = refl; place = refl; output = refl; overflow = refl })
 
@@ -363,3 +363,8 @@ unfolding ChannelsRight
 channels-right s l p q xs w c h =
     reads c h (acts (resetOf s l) xs) (told fresh (story c (resetOf s l) xs))
     (acts-right c h (resetOf s l) (reachable .reset s l p q) xs w fresh (reset-right c h s l))
+
+-- AFTER A RESET NO CHANNEL COUNTS OR RUNS
+pub at-rest : AtRest
+unfolding AtRest
+at-rest s l c h = rw (four-fresh c h)

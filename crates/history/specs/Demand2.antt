@@ -3,7 +3,7 @@
 use Rattle.history.specs.Settings.{SettingsKept}
 use Rattle.history.specs.Counts.{CountsRight}
 use Rattle.history.specs.Triggers.{TriggerRule, CountdownsSet, ActiveRight, ImageRight}
-use Rattle.history.specs.Story.{ChannelsRight}
+use Rattle.history.specs.Story.{ChannelsRight, AtRest}
 
 pub record Demand2 : Type 0 where
   -- the settings
@@ -19,3 +19,4 @@ pub record Demand2 : Type 0 where
   pub image : ImageRight
   -- A04, A30 to A34 and A39
   pub channels : ChannelsRight
+  pub rest : AtRest

@@ -126,3 +126,7 @@ unfoldable pub ChannelsRight : Type 0
 ChannelsRight =
     (s l : List ℕ) → length s ≡ 16960 → length l ≡ 512 → (xs : List Act) → Words16 xs → (c : ℕ) → c < 4
     → Shows c (acts (resetOf s l) xs) (told fresh (story c (resetOf s l) xs))
+
+-- after a reset: 'no countdown, no ramp'
+unfoldable pub AtRest : Type 0
+AtRest = (s l : List ℕ) (c : ℕ) → c < 4 → channelOf (resetOf s l .card) c .phase ≡ Rest

@@ -37,6 +37,6 @@ abbrev pub stepsFrom : Point → List Point → ℕ
 stepsFrom p [] = 0
 stepsFrom p (q ∷ ps) = cond (eqb (p .step) 0) 0 (p .step + stepsFrom q ps)
 
-abbrev pub stepsBefore : List Point → ℕ
-stepsBefore [] = 0
-stepsBefore (p ∷ ps) = stepsFrom p ps
+abbrev pub rampSteps : List Point → ℕ
+rampSteps [] = 0
+rampSteps (p ∷ ps) = stepsFrom p ps

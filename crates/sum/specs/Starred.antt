@@ -1,7 +1,7 @@
 -- 'Checked examples': the starred cases of samples, one row each.
 use mathlib.Core.List.{List, [], _∷_}
 use Prim.Native.Nat.{ℕ, _-_}
-use Rattle.sum.specs.Ramp.{Point, ramp, stepsBefore}
+use Rattle.sum.specs.Ramp.{Point, ramp, rampSteps}
 use Rattle.sum.specs.declared.Sum.{Sum}
 use Rattle.sum.specs.declared.Sum.the-variants.{Word, Overflow}
 
@@ -42,4 +42,4 @@ starredSamples =
 
 -- a case with what its ramp gives
 abbrev pub samplesGiven : Case → Case
-samplesGiven c = case (c .scale) (c .offset) (c .points) (ramp (c .scale) (c .offset) (c .points)) (stepsBefore (c .points))
+samplesGiven c = case (c .scale) (c .offset) (c .points) (ramp (c .scale) (c .offset) (c .points)) (rampSteps (c .points))
