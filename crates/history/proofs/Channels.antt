@@ -1,18 +1,17 @@
 -- A channel keeps its rules: a tick goes from a sound phase to a sound phase, and so does a trigger. A ramp comes only to places before
 -- point 63 with samples left, or ends; a countdown reaches 10 only by a load, which stops the older ramp. Assumes nothing.
-use mathlib.Core.Path.{_≡_, refl, sym, ap, _∙_}
+use mathlib.Core.Path.{_≡_, refl, sym, _∙_}
 use mathlib.Core.Bool.{Bool, true, false, cond}
 use mathlib.Core.List.{List}
-use Prim.Native.Nat.{ℕ, zero, suc, _+_, _*_, _-_, _≤_, _<_, max}
+use Prim.Native.Nat.{ℕ, zero, suc, _+_, _*_, _-_, _≤_, _<_}
 use native.Mathlib.Omega.{arith}
 use native.Mathlib.Nat.{mod-lt}
-use lib.Dec.{leb, ltb, eqb}
+use lib.Dec.{ltb, eqb}
 use lib.IntN.{ℤ, pos, negsuc, negℤ}
 use lib.Signed.{ltZ}
-use lib.ListN.{length, set}
-use borrow.Author.Tests.{ltb-true, ltb-false, leb-true, eqb-true, eqb-false}
-use Rattle.word.specs.Word.{wordOf, grown, lasting}
-use Rattle.word.specs.Table.{valueAt, stepAt, isEnd}
+use borrow.Author.Tests.{ltb-true, ltb-false, leb-true, eqb-false}
+use Rattle.word.specs.Word.{grown, lasting}
+use Rattle.word.specs.Table.{stepAt, isEnd}
 use Rattle.map.specs.Addresses.{tableAt, rampMapAt, scaleMapAt, scaleAt, offsetMapAt, offsetAt, delayAt, enableAt}
 use Rattle.map.proofs.Values.{accepted-is}
 use Rattle.sum.specs.declared.Sum.{Sum}
@@ -29,11 +28,11 @@ use Rattle.channel.specs.declared.Phase.{Phase}
 use Rattle.channel.specs.declared.Phase.the-variants.{Rest, Counting, Running}
 use Rattle.channel.specs.declared.Channel.{Channel}
 use Rattle.channel.specs.Ramp.{place, enter, next, sampleAt, put, give, given, advance}
-use Rattle.channel.specs.Channel.{Side, side, with, word, firstOf, lead, rampOf, phaseOf, copied, loadedFor, blank, load, start, countTo, tickAt, tickOf, countdown, triggered}
+use Rattle.channel.specs.Channel.{Side, side, with, word, firstOf, lead, rampOf, phaseOf, copied, load, start, countTo, tickAt, tickOf, countdown, triggered}
 use Rattle.course.proofs.Copies.{choose, copied-length}
 use Rattle.course.proofs.Tables.{Placed, grown-small}
 use Rattle.course.proofs.Walk.{on}
-use Rattle.history.specs.Sound.{Words, Tables, OnItsWay, RampSound, Countdown, PhaseSound, ShownSound, ChannelSound}
+use Rattle.history.specs.Sound.{Words, Tables, RampSound, Countdown, PhaseSound, ShownSound, ChannelSound}
 use Rattle.history.proofs.Fixed.{ramp-map-register}
 use Rattle.history.proofs.Words.{set-word}
 

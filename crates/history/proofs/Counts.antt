@@ -3,20 +3,19 @@
 use mathlib.Core.Path.{_≡_, refl, sym, ap, _∙_, subst}
 use mathlib.Core.Bool.{Bool, true, false, _||_, cond, true≢false}
 use mathlib.Core.List.{List, [], _∷_}
-use Prim.Native.Nat.{ℕ, _+_, _*_, _%_, _<_}
+use Prim.Native.Nat.{ℕ, _+_, _%_, _<_}
 use native.Mathlib.Omega.{arith}
 use lib.Dec.{eqb, ltb}
-use lib.ListN.{length, getD, set, replicate, length-set, getD-replicate}
+use lib.ListN.{length, set, length-set, getD-replicate}
 use lib.Seq.{getD-set-same, getD-set-other}
 use borrow.Author.Tests.{lt-ltb, eq-eqb, ne-eqb, eqb-true, eqb-false}
 use Rattle.word.specs.Word.{grown}
-use Rattle.map.specs.Map.{base, registerOf}
+use Rattle.map.specs.Map.{registerOf}
 use Rattle.slots.specs.declared.Holder.{Holder}
 use Rattle.slots.specs.declared.Holder.the-variants.{Level, Nobody}
-use Rattle.slots.specs.Slots.{erased}
 use Rattle.channel.specs.declared.Channel.{Channel}
 use Rattle.card.specs.declared.Card.{Card}
-use Rattle.card.specs.Card.{State, state, channelOf, withChannel, countOf, withCount, withChannels, onAll}
+use Rattle.card.specs.Card.{State, state, channelOf, withChannel, countOf, withCount, withChannels}
 use Rattle.card.specs.Trigger.{struck, triggerOf, acceptedOf, onEvent}
 use Rattle.card.specs.Tick.{advanced}
 use Rattle.card.specs.Reset.{cardReset, resetOf}

@@ -1,19 +1,18 @@
 -- Demand 3 holds of the card (`demand3-card`): each act of a history without triggers is a few acts of channel c, told apart by what they
 -- tick (`tracked`), and so demand 3 of one channel, proved in `course`, is that of the card's channel. Assumes nothing.
 use mathlib.Core.Path.{_≡_, refl, sym, ap, _∙_}
-use mathlib.Core.Bool.{Bool, true, false, cond, true≢false}
+use mathlib.Core.Bool.{true≢false}
 use mathlib.Core.List.{List, [], _∷_, _++_}
 use Prim.Native.Nat.{ℕ, zero, suc, _+_, _*_, _-_, _≤_, _<_}
 use native.Mathlib.Omega.{arith}
 use lib.ListN.{length}
 use Rattle.map.specs.Addresses.{enableAt}
 use Rattle.slots.specs.declared.Holder.the-variants.{Level, Nobody}
-use Rattle.channel.specs.declared.Channel.{Channel}
 use Rattle.channel.specs.Channel.{Side, side, word, countdown, tickOf, triggered}
 use Rattle.card.specs.declared.Card.{Card}
 use Rattle.card.specs.Card.{State, channelOf, withChannels, countOf, onAll}
-use Rattle.card.specs.Trigger.{struck, triggerOf, acceptedOf}
-use Rattle.card.specs.Tick.{advanced, tickWith}
+use Rattle.card.specs.Trigger.{struck, triggerOf}
+use Rattle.card.specs.Tick.{advanced}
 use Rattle.word.specs.Word.{grown}
 use Rattle.course.specs.Course as C
 use Rattle.course.specs.Follows.{Follows}
@@ -21,7 +20,7 @@ use Rattle.course.specs.Follows as F
 use Rattle.course.proofs.Acts.{tick-elsewhere, trigger-elsewhere, run-length, held-next}
 use Rattle.course.proofs.Appends.{run-append, ticks-append, held-later}
 use Rattle.course.proofs.Follows.{demand3}
-use Rattle.history.specs.History.{Act, Tick, Write, Read, Reset, act, acts, triggerBy, Calm, Quiet, ticksIn, until}
+use Rattle.history.specs.History.{Act, Tick, Write, Read, Reset, act, acts, triggerBy, Quiet, ticksIn, until}
 use Rattle.history.specs.Demand3.{sideAt, Demand3}
 use Rattle.history.proofs.Cards.{count-channels}
 use Rattle.history.proofs.Turns.{Turn, turn}

@@ -1,20 +1,17 @@
 -- The registers of the fixed words, of the scale factors and of the ramp map, each found in its row. Assumes nothing.
-use mathlib.Core.Path.{_≡_, refl, sym, ap, _∙_}
-use mathlib.Core.Bool.{Bool, true, false, cond}
-use mathlib.Core.List.{List}
-use Prim.Native.Nat.{ℕ, _+_, _*_, _-_, _/_, _%_, _≤_, _<_}
+use mathlib.Core.Path.{_≡_, sym}
+use mathlib.Core.Bool.{true}
+use Prim.Native.Nat.{ℕ, _+_, _-_, _%_, _≤_, _<_}
 use native.Mathlib.Omega.{arith}
-use lib.ListN.{length, getD}
 use borrow.Author.Tests.{lt-ltb}
 use Rattle.map.specs.declared.Setting.{Setting}
 use Rattle.map.specs.declared.Setting.the-variants as S
-use Rattle.map.specs.declared.Register.{Register}
 use Rattle.map.specs.declared.Register.the-variants as R
-use Rattle.map.specs.Map.{Row, scan, channelRows, cardRows, base, noRow, settings, point, namedIn, registerOf, acceptedIn, acceptedAt}
+use Rattle.map.specs.Map.{channelRows, base, settings, point, registerOf, acceptedAt}
 use Rattle.map.specs.Addresses.{tableAt, rampMapAt, scaleAt, offsetAt}
-use Rattle.map.proofs.Rows.{found, in-row-k}
+use Rattle.map.proofs.Rows.{found}
 use Rattle.map.proofs.Values.{free}
-use Rattle.map.proofs.Blocks.{channel-ordered, card-ordered, in-card, channel-register, channel-accepted}
+use Rattle.map.proofs.Blocks.{channel-ordered, channel-accepted}
 use Rattle.transfer.specs.Word.{fixedAt}
 use Rattle.history.proofs.Addresses.{channel-row}
 

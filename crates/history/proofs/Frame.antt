@@ -3,18 +3,17 @@
 use mathlib.Core.Path.{_≡_, refl, _∙_}
 use mathlib.Core.Bool.{Bool, true, false, cond}
 use mathlib.Core.List.{List}
-use Prim.Native.Nat.{ℕ, _+_, _≤_, _<_}
+use Prim.Native.Nat.{ℕ, _<_}
 use native.Mathlib.Omega.{arith}
-use lib.Dec.{eqb, ltb}
-use lib.ListN.{length, set, length-set}
+use lib.Dec.{ltb}
+use lib.ListN.{set, length-set}
 use lib.Seq.{getD-set-other}
 use Rattle.map.specs.declared.Register.{Register}
 use Rattle.map.specs.declared.Register.the-variants as R
-use Rattle.map.specs.Map.{base, registerOf}
-use Rattle.slots.specs.Slots.{erased}
+use Rattle.map.specs.Map.{registerOf}
 use Rattle.slots.proofs.Fills.{erased-length}
 use Rattle.channel.specs.declared.Channel.{Channel}
-use Rattle.channel.specs.Channel.{word, triggered}
+use Rattle.channel.specs.Channel.{word}
 use Rattle.card.specs.declared.Card.{Card}
 use Rattle.card.specs.Card.{State, state, channelOf, withChannel, onAll}
 use Rattle.card.specs.Trigger.{triggerOf}

@@ -15,7 +15,6 @@ use Rattle.map.specs.declared.Region.{Region}
 use Rattle.map.specs.Map.{scan, cardRows, regionOf, registerOf}
 use Rattle.map.proofs.Blocks.{in-card}
 use Rattle.map.proofs.Regions.{lies, same-region}
-use Rattle.slots.specs.declared.Holder.{Holder}
 use Rattle.slots.specs.declared.Holder.the-variants.{Level, Nobody}
 use Rattle.card.specs.Card.{State}
 use Rattle.card.specs.Trigger.{triggerOf}

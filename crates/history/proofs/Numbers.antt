@@ -23,10 +23,10 @@ use Rattle.transfer.specs.declared.Answer.{Answer}
 use Rattle.transfer.specs.Word.{fixedAt, heldAt, runningAt}
 use Rattle.transfer.specs.Transfer.{numberOf, processedOf, badCount, writable}
 use Rattle.history.specs.History.{doneFrom}
-use Rattle.history.specs.Numbers.{case, first, once, toWrite, writeRefusal, Given, Once, Stopped, All, Exact, WriteAnswered, ReadAnswered, Demand1}
+use Rattle.history.specs.Numbers.{case, first, once, toWrite, writeRefusal, Given, Once, Stopped, All, Exact, Demand1}
 use Rattle.history.proofs.Addresses.{Sits, sits}
-use Rattle.history.proofs.Writing.{Result, written}
-use Rattle.history.proofs.Reading.{ReadSo, was-read}
+use Rattle.history.proofs.Writing.{written}
+use Rattle.history.proofs.Reading.{was-read}
 
 -- the words before a refused one are not refused
 clash : {P : Type 0} (f : ℕ → ℕ) (p n : ℕ) → f p ≡ n → 1 ≤ n → f p ≡ 0 → P

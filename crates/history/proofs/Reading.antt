@@ -14,7 +14,7 @@ use Rattle.map.specs.Map.{regionOf}
 use Rattle.card.specs.declared.Card.{Card}
 use Rattle.card.specs.Card.{State}
 use Rattle.transfer.specs.declared.Answer.{Answer}
-use Rattle.transfer.specs.declared.Answer.the-variants.{BadCount, NoRegion, NoAccess, Beyond}
+use Rattle.transfer.specs.declared.Answer.the-variants.{Done, BadCount, NoRegion, NoAccess, Beyond}
 use Rattle.transfer.specs.Word.{readWord}
 use Rattle.transfer.specs.Transfer.{Filled, numberOf, processedOf, badCount, readable, filled, readWords, readIn, readOf}
 use Rattle.history.specs.Numbers.{first, once, readRefusal, Given, Once, Stopped, All, SliceFilled}
@@ -37,20 +37,25 @@ read-first q a b e = let f : a + 0 ≡ a = omega arith in rw (f, e)
 read-later : (q : Region) (a j : ℕ) → readRefusal (At q) (a + 1) j ≡ readRefusal (At q) a (suc j)
 read-later q a j = let e : a + 1 + j ≡ a + suc j = omega arith in ap (λ (b : ℕ). cond (ltb (q .last) b) 4 0) e
 
-scan : (q : Region) (s : List ℕ) (k : Card) (a i n : ℕ) (ws : List ℕ) → i + n ≤ length ws → Scan q s k a i n ws (readWords s k a (q .last) i n ws)
-unfolding readWords
-scan q s k a i zero ws h =
+-- no further word is filled in
+halted : (q : Region) (s : List ℕ) (k : Card) (a i n : ℕ) (ws : List ℕ) (w : Answer) → processedOf w ≡ i → Ends n 0 (numberOf w) (readRefusal (At q) a 0)
+    → Scan q s k a i n ws (filled ws w)
+halted q s k a i n ws w e f =
     record {
       many = 0;
       count = omega arith;
       few = omega arith;
       long = refl;
-      before = λ j f. refl;
-      words = λ j f. absurd (omega arith);
-      rest = λ j f. refl;
-      passes = λ j f. absurd (omega arith);
-      ends = whole refl refl;
+      before = λ j h. refl;
+      words = λ j h. absurd (omega arith);
+      rest = λ j h. refl;
+      passes = λ j h. absurd (omega arith);
+      ends = f;
     }
+
+scan : (q : Region) (s : List ℕ) (k : Card) (a i n : ℕ) (ws : List ℕ) → i + n ≤ length ws → Scan q s k a i n ws (readWords s k a (q .last) i n ws)
+unfolding readWords
+scan q s k a i zero ws h = halted q s k a i 0 ws (Done i) refl (whole refl refl)
 scan q s k a i (suc n) ws h = go (ltb (q .last) a) refl (scan q s k (a + 1) (i + 1) n next (rw (length-set ws i (readWord s k a)) (omega arith)))
   where
     next : List ℕ
@@ -61,18 +66,7 @@ scan q s k a i (suc n) ws h = go (ltb (q .last) a) refl (scan q s k (a + 1) (i +
 
     go : (b : Bool) → ltb (q .last) a ≡ b → Scan q s k (a + 1) (i + 1) n next (readWords s k (a + 1) (q .last) (i + 1) n next)
         → Scan q s k a i (suc n) ws (cond b (filled ws (Beyond i)) (readWords s k (a + 1) (q .last) (i + 1) n next))
-    go true e r =
-        record {
-          many = 0;
-          count = omega arith;
-          few = omega arith;
-          long = refl;
-          before = λ j f. refl;
-          words = λ j f. absurd (omega arith);
-          rest = λ j f. refl;
-          passes = λ j f. absurd (omega arith);
-          ends = stop (omega arith) (sym (read-first q a true e)) (omega arith);
-        }
+    go true e r = halted q s k a i (suc n) ws (Beyond i) refl (stop (omega arith) (sym (read-first q a true e)) (omega arith))
     go false e r =
         record {
           many = suc (r .many);

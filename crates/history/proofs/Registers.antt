@@ -2,13 +2,12 @@
 -- that begins in the block ends in it; and which words are settings (`settings-are`). Each is a rule of the rows. Assumes nothing.
 use mathlib.Core.Path.{_≡_, refl, sym}
 use mathlib.Core.Bool.{Bool, true, false, not, _&&_, cond, true≢false}
-use mathlib.Core.List.{List}
-use Prim.Native.Nat.{ℕ, _+_, _-_, _/_, _%_, _≤_, _<_}
+use Prim.Native.Nat.{ℕ, _+_, _-_, _/_, _%_, _<_}
 use native.Mathlib.Omega.{arith}
 use lib.Dec.{ltb}
 use borrow.Author.Tests.{ltb-true, ltb-false}
 use Rattle.map.specs.declared.Region.{Region}
-use Rattle.map.specs.declared.Found.the-variants.{At, Nothing}
+use Rattle.map.specs.declared.Found.the-variants.{At}
 use Rattle.map.specs.declared.Setting.{Setting}
 use Rattle.map.specs.declared.Register.{Register}
 use Rattle.map.specs.declared.Register.the-variants as R

@@ -6,7 +6,7 @@ use mathlib.Core.List.{List, [], _∷_}
 use Prim.Native.Nat.{ℕ, _+_, _/_, _%_, _≤_, _<_}
 use native.Mathlib.Omega.{arith}
 use lib.Dec.{eqb, leb, ltb}
-use lib.ListN.{length, set, length-set}
+use lib.ListN.{length, set}
 use lib.Seq.{getD-set-same, getD-set-other}
 use borrow.Author.Tests.{ltb-true, ltb-false, lt-ltb, le-leb, lt-leb, leb-true, leb-false, eq-eqb, ne-eqb, eqb-true, eqb-false}
 use Rattle.map.specs.declared.Register.{Register}
@@ -25,14 +25,14 @@ use Rattle.transfer.specs.Word.{effectOf, readAt}
 use Rattle.transfer.specs.Transfer.{writeOf}
 use Rattle.history.specs.History.{Act, Tick, Write, Read, Reset, act, acts, readBack, wordsDone}
 use Rattle.history.specs.Effects.{isSetting, Does, Keeps, Outputs, ClearsOverflow, ClearsCount, Erases, Idles, Triggers}
-use Rattle.history.specs.Settings.{isSlot, isScale, resetWord, wordLeft, leftAt, leftBy, lastWord, SettingsKept}
+use Rattle.history.specs.Settings.{isSlot, isScale, resetWord, wordLeft, leftAt, lastWord, SettingsKept}
 use Rattle.history.proofs.Addresses.{output-register, overflow-register, count-register, erase-register, manual-register, named-below}
 use Rattle.history.proofs.Registers.{Kept, plain, fixed, slot, kept}
 use Rattle.history.proofs.Words.{InScales, reset-word, reset-length}
 use Rattle.history.proofs.Effects.{passed-does}
 use Rattle.history.proofs.Writing.{write-by}
 use Rattle.history.proofs.Frame.{lengths-done, lengths-kept}
-use Rattle.history.specs.Frame.{SameLengths, LengthsKept}
+use Rattle.history.specs.Frame.{LengthsKept}
 
 setting-named : (r : Register) → Kept r → named r ≡ true
 setting-named r (plain s e) = rw e

@@ -1,14 +1,14 @@
 -- A reset makes a sound state, and ticks, events and writes keep it (`reachable`): the settings word by word, the channels one after the
 -- other, each over the tables that the one before left. Assumes nothing.
-use mathlib.Core.Path.{_≡_, refl, sym, ap, _∙_}
-use mathlib.Core.Bool.{Bool, true, false, cond, true≢false}
+use mathlib.Core.Path.{_≡_, refl, sym, _∙_}
+use mathlib.Core.Bool.{Bool, true, false, cond}
 use mathlib.Core.List.{List, [], _∷_}
-use Prim.Native.Nat.{ℕ, zero, suc, _+_, _*_, _-_, _≤_, _<_}
+use Prim.Native.Nat.{ℕ, zero, suc, _+_, _<_}
 use native.Mathlib.Omega.{arith}
 use native.Mathlib.Nat.{mod-lt}
-use lib.Dec.{leb, ltb, eqb}
+use lib.Dec.{ltb, eqb}
 use lib.ListN.{length, getD, set, replicate, length-set, getD-replicate, List·getD-eq-default}
-use borrow.Author.Tests.{lt-ltb, ltb-true, ltb-false, leb-true, eqb-true, eqb-false}
+use borrow.Author.Tests.{ltb-true, ltb-false, leb-true, eqb-true, eqb-false}
 use Rattle.word.specs.Word.{grown}
 use Rattle.map.specs.declared.Register.{Register}
 use Rattle.map.specs.declared.Register.the-variants as R
@@ -18,23 +18,21 @@ use Rattle.slots.specs.declared.Holder.{Holder}
 use Rattle.slots.specs.declared.Holder.the-variants.{Level, Nobody}
 use Rattle.slots.specs.Slots.{holderOf}
 use Rattle.slots.proofs.Fills.{filled-length, filled-in}
-use Rattle.slots.proofs.Holders.{Held, level-held}
+use Rattle.slots.proofs.Holders.{level-held}
 use Rattle.channel.specs.declared.Channel.{Channel}
 use Rattle.channel.specs.Channel.{Side, word, resetChannel, tickOf, triggered}
 use Rattle.card.specs.declared.Card.{Card}
 use Rattle.card.specs.Card.{State, state, All, noChannel, channelOf, withChannel, countOf, withCount, withChannels, onAll}
-use Rattle.card.specs.Trigger.{counted, showing, struck, triggerOf, acceptedOf, onEvent, eventOf}
-use Rattle.card.specs.Tick.{moved, advanced, tickWith, ticks}
-use Rattle.card.specs.Reset.{settingsReset, tablesReset, cardReset, resetOf}
+use Rattle.card.specs.Trigger.{struck, triggerOf, acceptedOf, onEvent, eventOf}
+use Rattle.card.specs.Tick.{advanced, tickWith, ticks}
+use Rattle.card.specs.Reset.{tablesReset, cardReset, resetOf}
 use Rattle.transfer.specs.declared.Verdict.{Verdict}
 use Rattle.transfer.specs.declared.Verdict.the-variants.{Accepted, Refused}
-use Rattle.transfer.specs.declared.Effect.{Effect}
-use Rattle.transfer.specs.declared.Effect.the-variants.{Keep, Output, ClearOverflow, ClearCount, Erase, Trigger, Nothing}
+use Rattle.transfer.specs.declared.Effect.the-variants.{Keep, Output, Erase, Nothing}
 use Rattle.transfer.specs.Word.{judgeOf, effectOf, outputTo, overflowCleared, performOf, onVerdict, writeWord}
 use Rattle.transfer.specs.Transfer.{writeOf}
 use Rattle.history.specs.History.{Act, Tick, Write, Read, Reset, acts, Each, Words16}
-use Rattle.history.specs.Effects.{isSetting}
-use Rattle.history.specs.Sound.{Words, Tables, ShownSound, ChannelSound, CardSound, Sound, Reachable}
+use Rattle.history.specs.Sound.{Tables, ChannelSound, Sound, Reachable}
 use Rattle.history.proofs.Addresses.{slot-register}
 use Rattle.history.proofs.Words.{Passed, passed, set-word, stored, erased-words, reset-words}
 use Rattle.history.proofs.Channels.{SideSound, tick-sound, strike-sound}

@@ -7,7 +7,7 @@ use Prim.Native.Nat.{ℕ, zero, suc, _+_, _*_, _-_, _%_, _≤_, _<_}
 use native.Mathlib.Omega.{arith}
 use lib.Dec.{ltb, eqb}
 use lib.ListN.{length}
-use borrow.Author.Tests.{ltb-true, ltb-false, eq-eqb, ne-eqb, eqb-true, eqb-false}
+use borrow.Author.Tests.{eq-eqb, ne-eqb, eqb-true, eqb-false}
 use Rattle.word.specs.Word.{grown}
 use Rattle.word.specs.Table.{stepAt, isEnd}
 use Rattle.sum.specs.declared.Sum.{Sum}
@@ -31,7 +31,7 @@ use Rattle.channel.specs.Channel.{Side, word, with, firstOf, lead, load, loaded
 use Rattle.card.specs.declared.Card.{Card}
 use Rattle.card.specs.Card.{State, channelOf, withChannel}
 use Rattle.card.specs.Trigger.{triggerOf, acceptedOf, onEvent}
-use Rattle.card.specs.Tick.{advanced, tickWith}
+use Rattle.card.specs.Tick.{advanced}
 use Rattle.card.specs.Reset.{cardReset, resetOf}
 use Rattle.transfer.specs.Word.{outputTo, overflowCleared}
 use Rattle.transfer.specs.Transfer.{writeOf}
@@ -40,19 +40,18 @@ use Rattle.course.specs.Course as C
 use Rattle.course.proofs.Acts.{elsewhere-in, elsewhere-length}
 use Rattle.course.proofs.Tables.{Placed, grown-small, same-enter, same-next, same-sample}
 use Rattle.course.proofs.Walk as W
-use Rattle.history.specs.History.{Act, Tick, Write, Read, Reset, act, acts, readBack, wordsDone, manualAmong, triggerBy, Words16}
+use Rattle.history.specs.History.{Act, Tick, Write, Read, Reset, act, acts, wordsDone, manualAmong, triggerBy, Words16}
 use Rattle.history.specs.Effects.{isSetting, Does, Keeps, Outputs, ClearsOverflow, ClearsCount, Erases, Idles, Triggers}
-use Rattle.history.specs.Sound.{Sound, PhaseSound, RampSound, Reachable}
-use Rattle.history.specs.Story.{Happening, Load, Sample, Output, Clear, Fresh, sample, byRamp, byStart, byTick, byTrigger, byWord, byWords, happens, story, Told, fresh, tell, told, Shows, ChannelsRight, AtRest}
+use Rattle.history.specs.Sound.{Sound, PhaseSound, RampSound}
+use Rattle.history.specs.Story.{Happening, Load, Sample, Output, Clear, sample, byRamp, byStart, byTick, byTrigger, byWord, byWords, happens, story, Told, fresh, tell, told, Shows, ChannelsRight, AtRest}
 use Rattle.history.proofs.Addresses.{output-register, table-register, scale-register, offset-register, segment-register, left-register, overflow-register}
 use Rattle.history.proofs.Cards.{channel-same, channel-other, channel-many, count-channels}
 use Rattle.history.proofs.Sound.{reachable}
 use Rattle.history.proofs.Effects.{passed-does}
 use Rattle.history.proofs.Writing.{write-by}
-use Rattle.history.proofs.Turns.{Turn}
 use Rattle.history.proofs.Done.{none-first}
-use Rattle.history.proofs.Manual.{Alone, manual-alone, manual-write}
-use Rattle.history.proofs.Demand3.{TickTurn, tick-turn, tick-same, TriggerTurn, trigger-turn, trigger-same}
+use Rattle.history.proofs.Manual.{manual-alone, manual-write}
+use Rattle.history.proofs.Demand3.{TickTurn, tick-turn, tick-same, trigger-turn, trigger-same}
 
 -- the channel shows what is told
 record Right (ch : Channel) (x : Told) : Type 0 where

@@ -2,7 +2,7 @@
 use mathlib.Core.Path.{_≡_, refl}
 use mathlib.Core.Bool.{Bool, true, false, cond}
 use mathlib.Core.List.{List, [], _∷_}
-use Prim.Native.Nat.{ℕ, zero, suc, _+_, _≤_, _<_}
+use Prim.Native.Nat.{ℕ, zero, suc, _+_, _≤_}
 use native.Mathlib.Omega.{arith}
 use lib.Dec.{ltb}
 use lib.ListN.{length, take}
@@ -16,7 +16,7 @@ use Rattle.transfer.specs.declared.Verdict.{Verdict}
 use Rattle.transfer.specs.declared.Verdict.the-variants as D
 use Rattle.transfer.specs.declared.Answer.the-variants.{Beyond, NoAccess, BadCount}
 use Rattle.transfer.specs.Word.{writeWord}
-use Rattle.transfer.specs.Transfer.{Out, out, badCount, writable, goOn, writeWords, writeIn, writeOf}
+use Rattle.transfer.specs.Transfer.{out, badCount, writable, goOn, writeWords, writeIn, writeOf}
 use Rattle.history.specs.History.{Each}
 
 pub each-take : (Q : ℕ → Type 0) (n : ℕ) (vs : List ℕ) → Each Q vs → Each Q (take n vs)

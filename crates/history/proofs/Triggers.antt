@@ -1,6 +1,6 @@
 -- The triggers of a history are those of the paper's rule (`trigger-rule`); 0x4210 and 0x4211 show the last of them (`active-right`), and
 -- the image shows who holds an event (`image-right`). Assumes nothing.
-use mathlib.Core.Path.{_≡_, refl, sym, ap, _∙_, subst}
+use mathlib.Core.Path.{_≡_, refl, sym, ap, _∙_}
 use mathlib.Core.Bool.{Bool, true, false, cond}
 use mathlib.Core.List.{List, [], _∷_}
 use Prim.Native.Nat.{ℕ, zero, suc, _+_, _<_}
@@ -8,14 +8,10 @@ use native.Mathlib.Omega.{arith}
 use lib.Dec.{eqb, ltb}
 use lib.ListN.{length, getD, set}
 use borrow.Author.Tests.{eq-eqb, ne-eqb, eqb-true, eqb-false}
-use Rattle.map.specs.declared.Setting.the-variants as S
-use Rattle.map.specs.declared.Register.{Register}
-use Rattle.map.specs.declared.Register.the-variants as R
-use Rattle.map.specs.Map.{registerOf}
 use Rattle.slots.specs.declared.Holder.{Holder}
 use Rattle.slots.specs.declared.Holder.the-variants.{Level, Nobody}
-use Rattle.slots.specs.Slots.{slotOf, levelOf, holderOf, imageAt}
-use Rattle.slots.proofs.Holders.{Held, level-held, nobody-if, holder-level}
+use Rattle.slots.specs.Slots.{levelOf, holderOf, imageAt}
+use Rattle.slots.proofs.Holders.{level-held, nobody-if, holder-level}
 use Rattle.channel.specs.declared.Phase.the-variants.{Counting}
 use Rattle.channel.specs.Channel.{Side, side, word, lead, rampOf, load, countdown, triggered}
 use Rattle.channel.specs.declared.Channel.{Channel}
@@ -24,18 +20,17 @@ use Rattle.card.specs.Card.{State, state, channelOf, withChannel, withCount}
 use Rattle.card.specs.Trigger.{triggerOf, acceptedOf, onEvent}
 use Rattle.card.specs.Tick.{advanced}
 use Rattle.card.specs.Reset.{cardReset, resetOf}
-use Rattle.transfer.specs.Word.{readAt, outputTo, overflowCleared}
+use Rattle.transfer.specs.Word.{outputTo, overflowCleared}
 use Rattle.transfer.specs.Transfer.{writeOf}
 use Rattle.history.specs.History.{Act, Tick, Write, Read, Reset, act, acts, readBack, wordsDone, manualAmong, triggerBy}
 use Rattle.history.specs.Effects.{Does, Keeps, Outputs, ClearsOverflow, ClearsCount, Erases, Idles, Triggers}
 use Rattle.history.specs.Sound.{Sound}
-use Rattle.history.specs.Triggers.{Holds, ByClock, ByHand, Accepted, TriggerRule, toStart, CountdownsSet, Active, active, eventBy, activeAfter, lastActive, ActiveShown, ActiveRight, ImageShown, ImageRight}
+use Rattle.history.specs.Triggers.{Holds, ByClock, ByHand, Accepted, TriggerRule, toStart, CountdownsSet, Active, active, activeAfter, lastActive, ActiveRight, ImageRight}
 use Rattle.history.proofs.Addresses.{clock-register, level-register, event-register, image-register}
 use Rattle.history.proofs.Effects.{passed-does}
 use Rattle.history.proofs.Writing.{write-by}
 use Rattle.history.proofs.Done.{none-first}
 use Rattle.history.proofs.Manual.{manual-write}
-use Rattle.history.proofs.Turns.{Turn}
 use Rattle.history.proofs.Demand3.{trigger-turn, trigger-same, trigger-settings, triggers}
 
 -- ---- the rule of clock events

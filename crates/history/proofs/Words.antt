@@ -4,33 +4,31 @@ use mathlib.Core.Path.{_≡_, refl, sym, ap, _∙_, subst}
 use mathlib.Core.Bool.{Bool, true, false, not, _&&_, cond, true≢false}
 use mathlib.Core.List.{List}
 use mathlib.Core.Logic.{_⊎_, inl, inr}
-use Prim.Native.Nat.{ℕ, zero, suc, _+_, _*_, _-_, _/_, _≤_, _<_}
+use Prim.Native.Nat.{ℕ, zero, suc, _+_, _-_, _/_, _≤_, _<_}
 use native.Mathlib.Omega.{arith}
 use lib.Dec.{leb, ltb, eqb}
-use lib.ListN.{length, getD, set, length-set, List·getD-eq-default}
+use lib.ListN.{length, set, length-set, List·getD-eq-default}
 use lib.Seq.{getD-set-same, getD-set-other, set-out}
 use borrow.Author.Tests.{ltb-true, ltb-false, leb-true, leb-false, eqb-true, eqb-false}
 use Rattle.map.specs.declared.Setting.{Setting}
 use Rattle.map.specs.declared.Setting.the-variants as S
 use Rattle.map.specs.declared.Register.{Register}
 use Rattle.map.specs.declared.Register.the-variants as R
-use Rattle.map.specs.Map.{base, registerOf, acceptedAt}
+use Rattle.map.specs.Map.{registerOf, acceptedAt}
 use Rattle.map.specs.Register.{allowed, allowedSetting}
 use Rattle.map.specs.Addresses.{tableAt, scaleAt, offsetAt}
 use Rattle.map.proofs.Values.{accepted-is}
 use Rattle.slots.specs.declared.Holder.{Holder}
 use Rattle.slots.specs.declared.Holder.the-variants.{Level, Nobody}
-use Rattle.slots.specs.Slots.{levelOf, otherOf, filled, erased, OneLevel}
+use Rattle.slots.specs.Slots.{otherOf, filled, erased, OneLevel}
 use Rattle.slots.proofs.Fills.{filled-length, filled-in, filled-out, erased-length}
 use Rattle.slots.proofs.Holders.{one-level-off, one-level-stored, one-level-erased}
 use Rattle.channel.specs.Channel.{word}
 use Rattle.card.specs.declared.Card.{Card}
 use Rattle.card.specs.Reset.{scalesReset, settingsReset}
 use Rattle.transfer.specs.declared.Why.the-variants.{Fixed, Value, Held, Running}
-use Rattle.transfer.specs.declared.Verdict.{Verdict}
 use Rattle.transfer.specs.declared.Verdict.the-variants.{Accepted, Refused}
 use Rattle.transfer.specs.Word.{fixedAt, isLevel, heldAt, runningAt, judgeOf}
-use Rattle.history.specs.Effects.{isSetting}
 use Rattle.history.specs.Sound.{Words}
 use Rattle.history.proofs.Addresses.{slot-register}
 use Rattle.history.proofs.Registers.{Kept, plain, fixed, slot, kept}

@@ -1,7 +1,6 @@
 -- All that an accepted word does, by its address.
 use mathlib.Core.Path.{_≡_}
 use mathlib.Core.Bool.{Bool, true, false, not, _&&_}
-use mathlib.Core.List.{List}
 use Prim.Native.Nat.{ℕ, _+_, _≤_, _<_}
 use lib.ListN.{set}
 use Rattle.map.specs.declared.Found.{Found}

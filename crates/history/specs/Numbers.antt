@@ -1,6 +1,6 @@
 -- Demand 1 of transfers: 'Order: 1, 2, 3 once; then 4 to 8 for each word. Each number is given exactly in its case.'
 use mathlib.Core.Path.{_≡_}
-use mathlib.Core.Bool.{Bool, true, false, not, cond}
+use mathlib.Core.Bool.{Bool, false, not, cond}
 use mathlib.Core.List.{List, [], _∷_}
 use Prim.Native.Nat.{ℕ, _+_, _≤_, _<_}
 use lib.Dec.{ltb}

@@ -1,6 +1,6 @@
 -- Equations allow one outcome, and so do their pairs and what is asked beside them. Assumes nothing.
-use mathlib.Core.Path.{_≡_, refl, sym, ap, _∙_}
-use Rattle.promises.specs.Outcomes.{Determines, Is, Both, And, OneOutcome}
+use mathlib.Core.Path.{_≡_, sym, ap, _∙_}
+use Rattle.promises.specs.Outcomes.{OneOutcome}
 
 pair : (A B : Type 0) (x y : A × B) → x .0 ≡ y .0 → x .1 ≡ y .1 → x ≡ y
 pair A B x y e f = ap (λ (a : A). (a, x .1)) e ∙ ap (λ (b : B). (y .0, b)) f
