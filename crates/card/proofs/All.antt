@@ -5,7 +5,7 @@ use Prim.Native.Nat.{ℕ}
 use Rattle.channel.specs.declared.Channel.{Channel}
 use Rattle.channel.specs.Channel.{Side}
 use Rattle.card.specs.declared.Card.{Card}
-use Rattle.card.specs.Card.{channelOf, All, onAll}
+use Rattle.card.specs.Card.{channelOf, onAll}
 
 -- a channel and its tables are those of a side
 pub record Made (ch : Channel) (l : List ℕ) (s : Side) : Type 0 where

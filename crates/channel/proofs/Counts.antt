@@ -1,17 +1,15 @@
 -- A countdown that falls by one and one that a trigger sets, as the code tells the cases apart. Assumes nothing.
-use mathlib.Core.Path.{_≡_, ap, _∙_}
-use mathlib.Core.Bool.{cond}
+use mathlib.Core.Path.{_≡_, ap}
 use mathlib.Core.List.{List}
-use Prim.Native.Nat.{ℕ, _-_, _≤_, _<_, max}
+use Prim.Native.Nat.{ℕ, _-_, _≤_, _<_}
 use native.Mathlib.Omega.{arith}
 use borrow.Author.Tests.{eq-eqb, ne-eqb}
-use lib.Dec.{eqb}
 use Rattle.map.specs.Addresses.{delayAt}
 use Rattle.channel.specs.declared.Channel.{Channel}
 use Rattle.channel.specs.declared.Ramp.{Ramp}
 use Rattle.channel.specs.declared.Phase.the-variants.{Counting}
 use Rattle.channel.specs.Ramp.{advance}
-use Rattle.channel.specs.Channel.{Side, side, with, word, firstOf, rampOf, lead, load, start, countTo, countdown, triggered}
+use Rattle.channel.specs.Channel.{side, with, word, firstOf, rampOf, lead, load, start, countTo, countdown, triggered}
 
 module _ (s l : List ℕ) (c : ℕ) (ch : Channel) where
   module _ (older : Ramp) (n : ℕ) where

@@ -1,16 +1,15 @@
 -- The whole table against the rows that the paper lists once: below 0x4000 the scan comes out where a channel's rows, raised to its base,
 -- hold the address; from there up, in the card's rows. By induction over the channels. Assumes nothing.
-use mathlib.Core.Path.{_≡_, refl, sym, ap, _∙_, subst}
+use mathlib.Core.Path.{_≡_, refl, ap, _∙_, subst}
 use mathlib.Core.Bool.{Bool, true, false, _&&_, cond}
 use mathlib.Core.List.{List, [], _∷_, _++_, map}
-use mathlib.Core.Logic.{_⊎_, inl, inr, ⊎-elim}
-use Prim.Native.Nat.{ℕ, zero, suc, _+_, _*_, _-_, _/_, _%_, _≤_, _<_}
+use mathlib.Core.Logic.{⊎-elim}
+use Prim.Native.Nat.{ℕ, zero, suc, _+_, _/_, _%_, _≤_, _<_}
 use native.Mathlib.Nat.{eq-or-lt-of-le}
 use native.Mathlib.Omega.{arith}
 use lib.Dec.{T, leb, ltb, ltb→lt}
 use lib.Ieee.Fits.{and-l, and-r}
 use borrow.Author.Tests.{le-leb, lt-leb, leb-true, leb-false}
-use Rattle.map.specs.declared.Register.{Register}
 use Rattle.map.specs.Map.{Row, Hit, hit, miss, holds, scan, channelRows, cardRows, base, raised, block, regions, namedIn, registerOf, acceptedIn, acceptedAt}
 use Rattle.map.proofs.Rows.{ordered, nowhere, off-row}
 

@@ -3,3 +3,4 @@ pub mod Blocks
 pub mod Regions
 pub mod Values
 pub mod Listed
+pub mod Worked

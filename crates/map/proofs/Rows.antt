@@ -1,5 +1,5 @@
 -- A table of rows: its order, one test over the whole table, gives the rule at each row; and where the scan comes out. Assumes nothing.
-use mathlib.Core.Path.{_≡_, refl, sym, ap, _∙_, subst}
+use mathlib.Core.Path.{_≡_, refl, sym, _∙_, subst}
 use mathlib.Core.Bool.{Bool, true, false, _&&_, _||_, cond}
 use mathlib.Core.List.{List, [], _∷_}
 use Prim.Native.Nat.{ℕ, zero, suc, _≤_, _<_, _-_}
@@ -9,11 +9,10 @@ use lib.Dec.{T, leb, ltb, eqb, leb→le, ltb→lt, eqb→eq}
 use lib.Ieee.Fits.{and-l, and-r}
 use lib.ListN.{length, getD, drop}
 use lib.Seq.{drop-cons}
-use borrow.Author.Tests.{le-leb, lt-leb}
+use borrow.Author.Tests.{le-leb}
 use Rattle.map.specs.declared.Region.{Region}
-use Rattle.map.specs.declared.Register.{Register}
 use Rattle.map.specs.declared.Register.the-variants.{Unlisted}
-use Rattle.map.specs.Map.{Row, Hit, hit, miss, holds, scan, noRow, namedIn}
+use Rattle.map.specs.Map.{Row, hit, miss, holds, scan, noRow, namedIn}
 
 -- ---- the order
 

@@ -1,7 +1,7 @@
 -- The column 'Accepted values' is what the register alone accepts: one agreement for each row that the paper lists. Assumes nothing.
 use mathlib.Core.Path.{_≡_, refl, sym, _∙_}
 use mathlib.Core.Bool.{Bool, true, false, not, cond}
-use mathlib.Core.List.{List, [], _∷_}
+use mathlib.Core.List.{List}
 use Prim.Native.Nat.{ℕ, _/_, _%_, _<_, _≤_, _-_}
 use lib.Dec.{T, ltb, eqb, ltb→lt, nltb→le}
 use borrow.Author.Tests.{lt-ltb, le-ltb}

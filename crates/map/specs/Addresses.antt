@@ -1,6 +1,9 @@
 -- 'The map of words': a channel's words by name. Base is the channel's, levels are 0 to 31, tables 0 to 15.
+use mathlib.Core.Path.{_≡_}
 use Prim.Native.Nat.{ℕ, _+_, _*_}
-use Rattle.map.specs.Map.{base}
+use Rattle.map.specs.declared.Setting.the-variants as S
+use Rattle.map.specs.declared.Register.the-variants as R
+use Rattle.map.specs.Map.{base, registerOf}
 
 -- the first word of table r
 abbrev pub tableAt : ℕ → ℕ → ℕ
@@ -26,3 +29,10 @@ delayAt c level = base c + 0x8E0 + level
 
 abbrev pub enableAt : ℕ → ℕ
 enableAt c = base c + 0xA00
+
+-- 'Channel 2, table 5, point 7, Δt is 0x228F'; 'level 3, slot 2 is 0x401A'
+pub record Worked : Type 0 where
+  pub step : tableAt 2 5 + 2 * 7 + 1 ≡ 0x228F
+  pub is : registerOf 0x228F ≡ R.Setting S.Step
+  pub slot : registerOf (0x4000 + 8 * 3 + 2) ≡ R.Slot 3
+  pub at : _≡_ {A = ℕ} (0x4000 + 8 * 3 + 2) 0x401A

@@ -1,9 +1,9 @@
 -- Point by point: what is reached, and the time it takes. Assumes nothing.
-use mathlib.Core.Path.{_≡_, refl, ap, _∙_, subst}
-use mathlib.Core.Bool.{Bool, true, false, not, _&&_, cond}
+use mathlib.Core.Path.{_≡_, refl, subst}
+use mathlib.Core.Bool.{Bool, true, false, not, _&&_}
 use mathlib.Core.List.{List}
 use mathlib.Core.Logic.{_⊎_, inl, inr}
-use Prim.Native.Nat.{ℕ, zero, suc, _+_, _*_, _<_}
+use Prim.Native.Nat.{ℕ, zero, suc, _+_, _<_}
 use native.Mathlib.Nat.{not-suc-le-zero, le-of-suc-le-suc, eq-or-lt-of-le}
 use native.Mathlib.Numerals.{add-one}
 use native.Mathlib.Omega.{arith}
@@ -11,7 +11,6 @@ use lib.IntN.{pos}
 use lib.Ieee.{binary64, ofInt}
 use Rattle.word.specs.Word.{lasting}
 use Rattle.word.specs.Table.{valueAt, stepAt, isEnd, stepsBefore}
-use Rattle.panel.specs.declared.Plot.{Plot}
 use Rattle.panel.specs.declared.Plot.the-variants.{Point, Nothing}
 use Rattle.panel.specs.Shown.{voltsOf}
 use Rattle.panel.specs.Plots.{reached, since, plotFrom}

@@ -1,20 +1,20 @@
 -- Every starred case of the paper, in one theorem: the samples by `sum`, the delays and transfers by computation on any state.
 -- Assumes nothing.
 use mathlib.Core.Path.{_≡_, refl, sym, ap, _∙_}
-use mathlib.Core.Bool.{Bool, true, false}
+use mathlib.Core.Bool.{true}
 use mathlib.Core.List.{List, [], _∷_, _++_, map}
-use Prim.Native.Nat.{ℕ, zero, suc, _+_, _-_, _<_, _≤_}
+use Prim.Native.Nat.{ℕ, zero, suc, _+_, _-_, _≤_}
 use native.Mathlib.Nat.{zero-add, suc-add}
 use native.Mathlib.Omega.{arith}
-use lib.ListN.{getD, set}
+use lib.ListN.{set}
 use lib.Seq.{getD-set-other}
 use Rattle.sum.specs.Starred as samples
 use Rattle.sum.proofs.Starred.{as-starred}
 use Rattle.map.specs.Map.{channelRows, cardRows, block, regions, scan}
 use Rattle.map.specs.Addresses.{delayAt}
 use Rattle.slots.specs.declared.Holder.{Holder}
-use Rattle.slots.specs.declared.Holder.the-variants.{Level, Nobody}
-use Rattle.slots.specs.Slots.{slotOf, otherOf}
+use Rattle.slots.specs.declared.Holder.the-variants.{Nobody}
+use Rattle.slots.specs.Slots.{otherOf}
 use Rattle.slots.proofs.Holders.{nobody-if, held-some, SomeLevel}
 use Rattle.channel.specs.declared.Channel.{Channel}
 use Rattle.channel.specs.Channel.{Side, side, word, load, start, countTo, tickAt, tickOf, triggered}
@@ -23,7 +23,7 @@ use Rattle.channel.proofs.Counts.{at-once, later}
 use Rattle.card.specs.Card.{State}
 use Rattle.transfer.specs.Word.{isLevel, judgeOf, writeWord}
 use Rattle.transfer.specs.Transfer.{writeOf, writeWords}
-use Rattle.starred.specs.Starred.{Delay, Comes, ticked, Holding, Answers, Case, ramp, Each, others, starred}
+use Rattle.starred.specs.Starred.{Comes, ticked, Holding, Answers, Case, ramp, Each, others, starred}
 
 -- ---- delays
 

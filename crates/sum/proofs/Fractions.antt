@@ -1,15 +1,15 @@
 -- Fractions in order: along a segment they go one way, from the first point's value to the second's. Assumes nothing.
-use mathlib.Core.Path.{_≡_, refl, ap}
+use mathlib.Core.Path.{ap}
 use mathlib.Core.Bool.{Bool, true, false, not}
 use mathlib.Core.Logic.{_⊎_, inl, inr}
-use Prim.Native.Nat.{ℕ, suc, _+_, _*_, _≤_, _<_}
+use Prim.Native.Nat.{ℕ, _+_, _*_, _≤_, _<_}
 use native.Mathlib.Nat.{le-of-lt, mul-le-mul-right}
 use native.Mathlib.Omega.{arith}
 use lib.Dec.{T, leb, leb→le, nleb→lt}
 use lib.IntN.{ℤ, pos, _-ℤ_, _*ℤ_}
 use lib.Signed.{_≤ℤ_}
 use Rattle.word.proofs.Split.{up, dn, of-minus, of-mul, le-split, le-join, eq-join}
-use Rattle.sum.specs.Fraction.{Fraction, whole, above, along, Same, Order}
+use Rattle.sum.specs.Fraction.{whole, above, along, Same, Order}
 
 pub either : (a b : ℤ) → (a ≤ℤ b) ⊎ (b ≤ℤ a)
 either a b = by (leb (up a + dn b) (up b + dn a)) (leb→le (up a + dn b) (up b + dn a)) (nleb→lt (up a + dn b) (up b + dn a))

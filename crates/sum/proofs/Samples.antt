@@ -1,19 +1,18 @@
 -- Laws of the sum, before its range is checked: it goes with the fraction's value alone, in its order or against it by the sign of S.
 -- Each is brought to one denominator, where the floor keeps the order. Assumes nothing.
 use mathlib.Core.Path.{_≡_, refl, sym, ap, _∙_}
-use mathlib.Core.Bool.{Bool, true, false, cond}
-use mathlib.Core.Logic.{_⊎_, inl, inr, ⊎-elim}
+use mathlib.Core.Logic.{_⊎_, inl, inr}
 use Prim.Native.Nat.{ℕ, zero, suc, _+_, _*_, _-_, _≤_, _<_}
 use native.Mathlib.Nat.{mul-le-mul-left, mul-pos}
 use native.Mathlib.Omega.{arith}
-use lib.Dec.{eqb, eqb·suc-zero}
-use lib.IntN.{ℤ, pos, negsuc, _+ℤ_, _-ℤ_, _*ℤ_}
+use lib.Dec.{eqb·suc-zero}
+use lib.IntN.{ℤ, pos, negsuc, _+ℤ_, _*ℤ_}
 use lib.Signed.{_≤ℤ_, ≤ℤ-refl}
 use Rattle.word.specs.Word.{signedOf}
 use Rattle.word.proofs.Split.{up, dn, of-add, of-mul, le-split, le-join, eq-join}
 use Rattle.sum.specs.Floor.{floor}
-use Rattle.sum.specs.Fraction.{Fraction, whole, above, along, fraction, Same, Order}
-use Rattle.sum.specs.Sample.{sumOf, totalOf, sampleOf, settled}
+use Rattle.sum.specs.Fraction.{Fraction, whole, along, fraction, Same, Order}
+use Rattle.sum.specs.Sample.{sumOf, sampleOf, settled}
 use Rattle.sum.specs.Order.{Rises, Falls, Between}
 use Rattle.sum.proofs.Floors.{floor-cancel, floor-mono}
 use Rattle.sum.proofs.Fractions.{either, at-start, at-end, climbs, drops, over-one}

@@ -2,14 +2,12 @@
 use mathlib.Core.Path.{_≡_, refl, sym, ap, _∙_}
 use mathlib.Core.Bool.{Bool, true, false, cond, true≢false}
 use mathlib.Core.Logic.{_⊎_, inl, inr}
-use Prim.Native.Nat.{ℕ, suc, _+_, _-_, _≤_, _<_, _^_}
+use Prim.Native.Nat.{ℕ, _+_, _≤_, _<_, _^_}
 use native.Mathlib.Omega.{arith}
-use borrow.Author.Tests.{ltb-false}
 use lib.Dec.{T}
-use lib.IntN.{ℤ, pos, negsuc, natAbs, _+ℤ_}
+use lib.IntN.{ℤ, pos, negsuc}
 use lib.Signed.{_≤ℤ_, ltZ}
 use Rattle.word.specs.Word.{signedOf, wordOf}
-use Rattle.word.proofs.Sizes.{sub-ind}
 use Rattle.word.proofs.Split.{le-split, lt-split, lt-join}
 use Rattle.word.proofs.Number.{signed-of-word}
 use Rattle.sum.specs.Sample.{sideOf, settled, totalOf}

@@ -1,10 +1,8 @@
 -- `card::receive` meets its contract: an accepted trigger, or nothing. Assumes nothing.
 use borrow.Author.Needs.{needs}
 use mathlib.Core.Path.{_≡_, sym, ap, _∙_}
-use mathlib.Core.List.{List}
 use Prim.Native.Nat.{ℕ}
 use Rattle.slots.specs.declared.Holder.{Holder}
-use Rattle.slots.specs.declared.Holder.the-variants.{Level, Nobody}
 use Rattle.card.specs.Card.{State, state}
 use Rattle.card.specs.Trigger.{acceptedOf, onEvent, eventOf}
 use Rattle.card.proofs.receive.Statement.{statement}

@@ -1,8 +1,7 @@
 -- `card::run` meets its contract: what is left to do from here equals the whole. Assumes nothing.
 use borrow.Author.Needs.{needs}
 use mathlib.Core.Path.{_≡_, refl, sym, ap, _∙_}
-use mathlib.Core.List.{List}
-use Prim.Native.Nat.{ℕ, _≤_, _-_}
+use Prim.Native.Nat.{_≤_, _-_}
 use lib.ListN.{length}
 use Rattle.card.specs.Card.{State, state}
 use Rattle.card.specs.Tick.{advanced, ticks}

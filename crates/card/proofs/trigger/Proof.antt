@@ -1,8 +1,7 @@
 -- `card::trigger` meets its contract. Assumes nothing.
 use borrow.Author.Needs.{needs}
-use mathlib.Core.Path.{_≡_, sym, ap, _∙_}
+use mathlib.Core.Path.{ap, _∙_}
 use Rattle.card.specs.declared.Card.{Card}
-use Rattle.card.specs.Card.{State}
 use Rattle.card.specs.Trigger.{counted, showing, triggerOf}
 use Rattle.card.proofs.trigger.Statement.{statement}
 use Rattle.card.proofs.trigger.Tie as tie

@@ -1,8 +1,6 @@
 -- `channel::load_level` meets its contract. Assumes nothing.
 use borrow.Author.Needs.{needs}
-use mathlib.Core.Path.{_≡_, sym, ap, _∙_}
-use Prim.Native.Nat.{ℕ}
-use Rattle.channel.specs.declared.Channel.{Channel}
+use mathlib.Core.Path.{ap, _∙_}
 use Rattle.channel.specs.declared.Loaded.{Loaded}
 use Rattle.channel.specs.declared.Phase.the-variants.{Counting}
 use Rattle.channel.specs.declared.Ramp.the-variants.{Still}

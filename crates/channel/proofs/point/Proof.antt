@@ -1,10 +1,8 @@
 -- `channel::point` meets its contract: the point ends the ramp or not, as `ends` tells. Assumes nothing.
 use borrow.Author.Needs.{needs}
 use mathlib.Core.Path.{_≡_, sym, ap, _∙_}
-use Prim.Native.Nat.{ℕ}
 use mathlib.Core.Bool.{Bool, cond}
 use Rattle.word.specs.Table.{stepAt, isEnd}
-use Rattle.channel.specs.declared.Place.{Place}
 use Rattle.channel.specs.Channel.{firstOf}
 use Rattle.channel.specs.Ramp.{place, enter}
 use Rattle.channel.proofs.point.Statement.{statement}

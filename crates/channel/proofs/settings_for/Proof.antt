@@ -1,9 +1,9 @@
 -- `channel::settings_for` meets its contract: the maps give the entries, and the entries the words. Assumes nothing.
 use borrow.Author.Needs.{needs}
-use mathlib.Core.Path.{_≡_, sym, ap, _∙_}
+use mathlib.Core.Path.{_≡_, ap, _∙_}
 use Prim.Native.Nat.{ℕ}
 use Rattle.channel.specs.declared.Loaded.{Loaded}
-use Rattle.channel.specs.Channel.{word, loadedFor}
+use Rattle.channel.specs.Channel.{word}
 use Rattle.map.specs.Addresses.{scaleAt, offsetAt}
 use Rattle.channel.proofs.settings_for.Statement.{statement}
 use Rattle.channel.proofs.settings_for.Tie as tie

@@ -8,9 +8,8 @@ use Rattle.word.specs.declared.Micros.{Micros}
 use Rattle.channel.specs.declared.Place.{Place}
 use Rattle.channel.specs.declared.Loaded.{Loaded}
 use Rattle.channel.specs.declared.Shown.{Shown}
-use Rattle.channel.specs.declared.Moved.{Moved}
 use Rattle.channel.specs.declared.Ramp.{Ramp}
-use Rattle.channel.specs.declared.Ramp.the-variants.{Still, Going}
+use Rattle.channel.specs.declared.Ramp.the-variants.{Going}
 use Rattle.channel.specs.Ramp.{next, given, advance}
 use Rattle.channel.specs.Channel.{firstOf}
 use Rattle.channel.proofs.step.Statement.{statement}

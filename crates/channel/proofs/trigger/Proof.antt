@@ -1,12 +1,12 @@
 -- `channel::trigger` meets its contract: the load at once, or the countdown. Assumes nothing.
 use borrow.Author.Needs.{needs}
-use mathlib.Core.Path.{_≡_, sym, ap, _∙_}
+use mathlib.Core.Path.{sym, ap, _∙_}
 use Prim.Native.Nat.{ℕ, _≤_, _<_}
 use Rattle.channel.specs.declared.Channel.{Channel}
 use Rattle.channel.specs.declared.Ramp.{Ramp}
 use Rattle.channel.specs.declared.Phase.the-variants.{Counting}
 use Rattle.map.specs.Addresses.{delayAt}
-use Rattle.channel.specs.Channel.{Side, word, rampOf}
+use Rattle.channel.specs.Channel.{Side, word}
 use Rattle.channel.proofs.Counts.{at-once, later}
 use Rattle.channel.proofs.trigger.Statement.{statement}
 use Rattle.channel.proofs.trigger.Tie as tie

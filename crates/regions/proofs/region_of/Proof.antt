@@ -1,13 +1,12 @@
 -- `regions::region_of` meets its contract: the rows from k on still hold what the whole table holds. Assumes nothing.
 use borrow.Author.Needs.{needs}
 use mathlib.Core.Path.{_≡_, refl, sym, ap, _∙_}
-use mathlib.Core.Bool.{Bool}
 use Prim.Native.Nat.{ℕ, _≤_, _-_}
 use native.Mathlib.Omega.{arith}
 use lib.ListN.{drop}
 use Rattle.map.specs.declared.Region.{Region}
 use Rattle.map.specs.declared.Found.the-variants.{At}
-use Rattle.map.specs.Map.{Hit, regions, rowOf, scan, holds, foundIn}
+use Rattle.map.specs.Map.{regions, rowOf, scan, holds, foundIn}
 use Rattle.map.proofs.Regions.{here, on, past}
 use Rattle.regions.proofs.region_of.Statement.{statement}
 use Rattle.regions.proofs.region_of.Tie as tie

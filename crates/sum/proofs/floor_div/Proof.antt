@@ -2,7 +2,7 @@
 -- Assumes nothing.
 use borrow.Author.Needs.{needs}
 use mathlib.Core.Path.{_≡_, ap}
-use Prim.Native.Nat.{ℕ, _/_, _<_, _^_}
+use Prim.Native.Nat.{_/_, _<_, _^_}
 use native.Mathlib.Nat.{div-le-self, lt-of-le-of-lt}
 use lib.IntN.{ℤ, pos, negsuc, _-ℤ_}
 use lib.Signed.{mag, quotZ}
