@@ -14,7 +14,7 @@ use Rattle.map.specs.Map.{regionOf}
 use Rattle.slots.specs.declared.Holder.{Holder}
 use Rattle.slots.specs.declared.Holder.the-variants.{Level, Nobody}
 use Rattle.card.specs.declared.Card.{Card}
-use Rattle.card.specs.Card.{State, state}
+use Rattle.card.specs.Card.{State}
 use Rattle.card.specs.Trigger.{triggerOf, acceptedOf, onEvent}
 use Rattle.card.specs.Tick.{advanced, tickWith}
 use Rattle.card.proofs.Ticks.{same-state}
@@ -193,6 +193,5 @@ module _ (s : List ℕ) (k : Card) (start count : ℕ) (few : count ≤ 64) {a :
         short = omega (arith, read-few);
       }
 
-pub bad-answers : (k : Card) (s l line o : List ℕ) (at : ℕ) {o′ : List ℕ} → o′ ≡ sets o at (hex2 0xFF) → Answers (onFrame (state k s l) line Bad) at o o′ s l (record { card = k; end = at + 2 })
-bad-answers k s l line o at h =
-    record { same = refl; puts = record { buffer = h; ends = ap (λ (n : ℕ). at + n) (sym (length-hex2 0xFF)); short = omega arith } }
+pub bad-put : (o : List ℕ) (at : ℕ) {o′ : List ℕ} → o′ ≡ sets o at (hex2 0xFF) → Puts (hex2 0xFF) at o o′ (at + 2)
+bad-put o at h = record { buffer = h; ends = ap (λ (n : ℕ). at + n) (sym (length-hex2 0xFF)); short = omega arith }

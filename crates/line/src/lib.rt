@@ -208,13 +208,7 @@ fn answer(
         }
         Frame::Ticks(n) => answer_ticks(settings, tables, card, line, n, out, at),
         Frame::Event(e) => answer_event(settings, tables, card, line, e, out, at),
-        Frame::Bad => {
-            put2(out, at, 0xFF);
-            Answered {
-                card: card,
-                end: at + 2,
-            }
-        }
+        Frame::Bad => answer_bad(card, out, at),
     }
 }
 
@@ -304,6 +298,18 @@ fn answer_event(
     let k = card::tick(settings, tables, card, e);
     let end = put_outputs(k, 0x84, out, at);
     Answered { card: k, end: end }
+}
+
+// FF: the line is no frame.
+fn answer_bad(card: Card, out: &mut [u8], at: usize) -> Answered
+    requires { ⌜ at < 2 ^ 63 ⌝ }
+    ensures { λ r. ⌜ (r .card ≡ card) × Puts (hex2 0xFF) at (now (out .entry)) (now (out .exit)) (r .end) ⌝ }
+{
+    put2(out, at, 0xFF);
+    Answered {
+        card: card,
+        end: at + 2,
+    }
 }
 
 // The name and the four outputs.

@@ -76,25 +76,16 @@ pub fn write(
     ensures { λ r. ⌜ (r ≡ written (writeOf (state card (now (settings .entry)) (now (tables .entry))) start count (now (words .entry)))) × (now (settings .exit) ≡ writeOf (state card (now (settings .entry)) (now (tables .entry))) start count (now (words .entry)) .state .settings) × (now (tables .exit) ≡ writeOf (state card (now (settings .entry)) (now (tables .entry))) start count (now (words .entry)) .state .tables) ⌝ }
 {
     if bad_count(count, words.len()) {
-        return Written {
-            card: card,
-            answer: Answer::BadCount,
-        };
+        return ended(card, Answer::BadCount);
     }
     match regions::region_of(start) {
-        Found::Nothing => Written {
-            card: card,
-            answer: Answer::NoRegion,
-        },
+        Found::Nothing => ended(card, Answer::NoRegion),
         Found::At(r) => {
             let access = r.access;
             if may_write(access) {
                 write_words(settings, tables, card, start, r.last, words, count)
             } else {
-                Written {
-                    card: card,
-                    answer: Answer::NoAccess,
-                }
+                ended(card, Answer::NoAccess)
             }
         }
     }
@@ -191,6 +182,16 @@ fn may_read(access: Access) -> bool
     }
 }
 
+// What a write hands back.
+fn ended(card: Card, answer: Answer) -> Written
+    ensures { λ r. ⌜ r ≡ record { card = card; answer = answer } ⌝ }
+{
+    Written {
+        card: card,
+        answer: answer,
+    }
+}
+
 // The words written one after the other, in a region up to `last`.
 fn write_words(
     settings: &mut [u16],
@@ -209,10 +210,7 @@ fn write_words(
     while i < count {
         let a = start as usize + i;
         if (last as usize) < a {
-            return Written {
-                card: k,
-                answer: Answer::Beyond(i),
-            };
+            return ended(k, Answer::Beyond(i));
         }
         let w = write_word(settings, tables, k, a as u16, word::get(words, i));
         k = w.card;
@@ -220,18 +218,12 @@ fn write_words(
         match v {
             Verdict::Accepted => {}
             Verdict::Refused(why) => {
-                return Written {
-                    card: k,
-                    answer: Answer::Refused(why, i),
-                };
+                return ended(k, Answer::Refused(why, i));
             }
         }
         i = i + 1;
     }
-    Written {
-        card: k,
-        answer: Answer::Done(count),
-    }
+    ended(k, Answer::Done(count))
 }
 
 // The words read one after the other.
@@ -308,19 +300,8 @@ fn is_fixed(register: Register) -> bool
     ensures { λ b. ⌜ b ≡ fixedAt register ⌝ }
 {
     match register {
-        Register::Setting(_) => false,
         Register::Fixed(_) => true,
-        Register::Output(_) => false,
-        Register::Status(_, _) => false,
-        Register::Overflow(_) => false,
-        Register::Slot(_) => false,
-        Register::Image(_) => false,
-        Register::Erase => false,
-        Register::Manual => false,
-        Register::ActiveLevel => false,
-        Register::ActiveEvent => false,
-        Register::Count(_) => false,
-        Register::Unlisted => false,
+        _ => false,
     }
 }
 
@@ -329,19 +310,8 @@ fn is_held(settings: &[u16], register: Register, value: u16) -> bool
     ensures { λ b. ⌜ b ≡ heldAt (now (settings .entry)) register value ⌝ }
 {
     match register {
-        Register::Setting(_) => false,
-        Register::Fixed(_) => false,
-        Register::Output(_) => false,
-        Register::Status(_, _) => false,
-        Register::Overflow(_) => false,
         Register::Slot(level) => held_elsewhere(settings, level, value),
-        Register::Image(_) => false,
-        Register::Erase => false,
-        Register::Manual => false,
-        Register::ActiveLevel => false,
-        Register::ActiveEvent => false,
-        Register::Count(_) => false,
-        Register::Unlisted => false,
+        _ => false,
     }
 }
 
@@ -362,19 +332,8 @@ fn is_running(card: Card, register: Register) -> bool
     ensures { λ b. ⌜ b ≡ runningAt card register ⌝ }
 {
     match register {
-        Register::Setting(_) => false,
-        Register::Fixed(_) => false,
         Register::Output(c) => channel::runs(card::channel_of(card, c)),
-        Register::Status(_, _) => false,
-        Register::Overflow(_) => false,
-        Register::Slot(_) => false,
-        Register::Image(_) => false,
-        Register::Erase => false,
-        Register::Manual => false,
-        Register::ActiveLevel => false,
-        Register::ActiveEvent => false,
-        Register::Count(_) => false,
-        Register::Unlisted => false,
+        _ => false,
     }
 }
 
@@ -383,13 +342,9 @@ fn effect_of(register: Register, value: u16) -> Effect
     ensures { λ r. ⌜ r ≡ effectOf register value ⌝ }
 {
     match register {
-        Register::Setting(_) => Effect::Keep(value),
-        Register::Fixed(_) => Effect::Nothing,
+        Register::Setting(_) | Register::Slot(_) => Effect::Keep(value),
         Register::Output(c) => Effect::Output(c, value),
-        Register::Status(_, _) => Effect::Nothing,
         Register::Overflow(c) => Effect::ClearOverflow(c),
-        Register::Slot(_) => Effect::Keep(value),
-        Register::Image(_) => Effect::Nothing,
         Register::Erase => {
             if value == 1 {
                 Effect::Erase
@@ -398,10 +353,8 @@ fn effect_of(register: Register, value: u16) -> Effect
             }
         }
         Register::Manual => Effect::Trigger(value),
-        Register::ActiveLevel => Effect::Nothing,
-        Register::ActiveEvent => Effect::Nothing,
         Register::Count(level) => Effect::ClearCount(level),
-        Register::Unlisted => Effect::Nothing,
+        _ => Effect::Nothing,
     }
 }
 
@@ -489,19 +442,17 @@ fn read_word(settings: &[u16], card: Card, address: u16) -> u16
     ensures { λ r. ⌜ r ≡ readWord (now (settings .entry)) card address ⌝ }
 {
     match map::register_at(address) {
-        Register::Setting(_) => word::get(settings, address as usize),
-        Register::Fixed(_) => word::get(settings, address as usize),
+        Register::Setting(_) | Register::Fixed(_) | Register::Slot(_) => {
+            word::get(settings, address as usize)
+        }
         Register::Output(c) => output_of(card::channel_of(card, c)),
         Register::Status(c, f) => status_of(card::channel_of(card, c), f),
         Register::Overflow(c) => overflow_of(card::channel_of(card, c)),
-        Register::Slot(_) => word::get(settings, address as usize),
         Register::Image(e) => slots::image(settings, e),
-        Register::Erase => 0,
-        Register::Manual => 0,
         Register::ActiveLevel => card.level,
         Register::ActiveEvent => card.event,
         Register::Count(level) => card::count_of(card, level),
-        Register::Unlisted => 0,
+        _ => 0,
     }
 }
 

@@ -1,10 +1,11 @@
 -- `line::answer` meets its contract: one frame after the other. Assumes nothing.
 use borrow.Author.Needs.{needs}
-use mathlib.Core.Path.{_≡_, refl, sym, _∙_}
+use mathlib.Core.Path.{_≡_, refl, sym, ap, _∙_}
+use Rattle.card.specs.declared.Card.{Card}
 use Rattle.card.specs.Card.{State, state}
 use Rattle.line.specs.declared.Frame.the-variants.{Write, Read, Ticks, Event, Bad}
 use Rattle.line.specs.Frame.{frameOf}
-use Rattle.line.proofs.Frames.{step-is, small-of, bad-answers}
+use Rattle.line.proofs.Frames.{step-is, small-of}
 use Rattle.line.proofs.answer.Statement.{statement}
 use Rattle.line.proofs.answer.Tie as tie
 
@@ -42,11 +43,8 @@ answer-event-requires c κs = search needs
 enum-told : tie.Need-enum-told
 enum-told c = search needs
 
-put2-requires : tie.Need-put2-requires
-put2-requires c κs = search needs
-
-add-t41 : tie.Need-add-t41
-add-t41 c = search needs
+answer-bad-requires : tie.Need-answer-bad-requires
+answer-bad-requires c κs = search needs
 
 same-length : tie.Need-same-length
 same-length c = search needs
@@ -121,7 +119,8 @@ returns-5 c =
     let a = c .before .before .before .before .before .before .before .before .before .before .before .args in
     let st : State = state (a .card) (a .settings .now) (a .tables .now) in
     let e : frameOf (a .line .now) ≡ Bad = sym (c .before .before .before .before .before .before .parse .ensures) ∙ c .before .before .before .before .enum-told .given .1 in
-    rw (step-is st (a .line .now) Bad e) (bad-answers (a .card) (a .settings .now) (a .tables .now) (a .line .now) (a .out .now) (a .at) (c .before .before .put2 .ensures))
+    let h = c .before .before .answer-bad .ensures in
+    rw (step-is st (a .line .now) Bad e) (record { same = ap (λ (k : Card). state k (a .settings .now) (a .tables .now)) (h .0); puts = h .1 })
 
 pub answer-spec : {M : Type 1} → statement M
 answer-spec =
@@ -137,8 +136,7 @@ answer-spec =
     enum-known-e
     answer-event-requires
     enum-told
-    put2-requires
-    add-t41
+    answer-bad-requires
     same-length
     same-length-2
     same-length-3

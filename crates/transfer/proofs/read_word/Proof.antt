@@ -1,13 +1,15 @@
 -- `transfer::read_word` meets its contract: each arm is the register's own case. Assumes nothing.
 use borrow.Author.Needs.{needs}
-use mathlib.Core.Path.{_≡_, sym, ap, _∙_}
-use mathlib.Core.List.{List}
+use mathlib.Core.Path.{_≡_, refl, sym, ap, _∙_}
+use mathlib.Core.List.{List, [], _∷_}
 use Prim.Native.Nat.{ℕ}
 use Rattle.map.specs.declared.Register.{Register}
 use Rattle.map.specs.Map.{registerOf}
 use Rattle.channel.specs.declared.Channel.{Channel}
+use Rattle.channel.specs.Channel.{word}
 use Rattle.card.specs.declared.Card.{Card}
 use Rattle.transfer.specs.Word.{statusOf, readAt, readWord}
+use Rattle.transfer.proofs.Arms.{alike}
 use Rattle.transfer.proofs.read_word.Statement.{statement}
 use Rattle.transfer.proofs.read_word.Tie as tie
 
@@ -18,17 +20,8 @@ told s k a p e = ap (readAt s k a) (sym p ∙ e)
 register-at-requires : tie.Need-register-at-requires
 register-at-requires c κs = search needs
 
-enum-told : tie.Need-enum-told
-enum-told c = search needs
-
 get-requires : tie.Need-get-requires
 get-requires c κs = search needs
-
-enum-told-2 : tie.Need-enum-told-2
-enum-told-2 c = search needs
-
-get-requires-2 : tie.Need-get-requires-2
-get-requires-2 c κs = search needs
 
 enum-known-c : tie.Need-enum-known-c
 enum-known-c c = search needs
@@ -57,29 +50,17 @@ channel-of-requires-3 c κs = search needs
 overflow-of-requires : tie.Need-overflow-of-requires
 overflow-of-requires c κs = search needs
 
-enum-told-3 : tie.Need-enum-told-3
-enum-told-3 c = search needs
-
-get-requires-3 : tie.Need-get-requires-3
-get-requires-3 c κs = search needs
-
 enum-known-e : tie.Need-enum-known-e
 enum-known-e c = search needs
 
 image-requires : tie.Need-image-requires
 image-requires c κs = search needs
 
-enum-told-4 : tie.Need-enum-told-4
-enum-told-4 c = search needs
+enum-told : tie.Need-enum-told
+enum-told c = search needs
 
-enum-told-5 : tie.Need-enum-told-5
-enum-told-5 c = search needs
-
-enum-told-6 : tie.Need-enum-told-6
-enum-told-6 c = search needs
-
-enum-told-7 : tie.Need-enum-told-7
-enum-told-7 c = search needs
+enum-told-2 : tie.Need-enum-told-2
+enum-told-2 c = search needs
 
 enum-known-level : tie.Need-enum-known-level
 enum-known-level c = search needs
@@ -87,57 +68,45 @@ enum-known-level c = search needs
 count-of-requires : tie.Need-count-of-requires
 count-of-requires c κs = search needs
 
-enum-told-8 : tie.Need-enum-told-8
-enum-told-8 c = search needs
-
 returns : tie.Need-returns
-returns c = c .get .ensures ∙ told (c .before .before .before .before .before .args .settings .now) (c .before .before .before .before .before .args .card) (c .before .before .before .before .before .args .address) (c .before .enum-told .given .1) (c .before .before .before .register-at .ensures)
+returns c =
+    let a = c .before .before .before .before .args in
+    let read = readAt (a .settings .now) (a .card) (a .address) in
+    c .get .ensures ∙ sym (alike read (word (a .settings .now) (a .address)) (0 ∷ 1 ∷ 5 ∷ []) (λ v. refl, (λ v. refl, (λ v. refl, tt))) (c .before .before .register-at .result) (c .before .match .keys1)) ∙ ap read (c .before .before .register-at .ensures)
 
 returns-2 : tie.Need-returns-2
-returns-2 c = c .get2 .ensures ∙ told (c .before .before .before .before .before .args .settings .now) (c .before .before .before .before .before .args .card) (c .before .before .before .before .before .args .address) (c .before .enum-told2 .given .1) (c .before .before .before .register-at .ensures)
+returns-2 c = c .output-of .ensures ∙ ap (λ (x : Channel). x .shown .output) (c .before .channel-of .ensures) ∙ told (c .before .before .before .before .before .before .before .args .settings .now) (c .before .before .before .before .before .before .before .args .card) (c .before .before .before .before .before .before .before .args .address) (c .before .before .before .c .given .1) (c .before .before .before .before .before .register-at .ensures)
 
 returns-3 : tie.Need-returns-3
-returns-3 c = c .output-of .ensures ∙ ap (λ (x : Channel). x .shown .output) (c .before .channel-of .ensures) ∙ told (c .before .before .before .before .before .before .before .args .settings .now) (c .before .before .before .before .before .before .before .args .card) (c .before .before .before .before .before .before .before .args .address) (c .before .before .before .c .given .1) (c .before .before .before .before .before .register-at .ensures)
+returns-3 c = c .status-of .ensures ∙ ap (λ (x : Channel). statusOf x (c .before .before .before .c2 .given .0 .1 .0)) (c .before .channel-of2 .ensures) ∙ told (c .before .before .before .before .before .before .before .args .settings .now) (c .before .before .before .before .before .before .before .args .card) (c .before .before .before .before .before .before .before .args .address) (c .before .before .before .c2 .given .1) (c .before .before .before .before .before .register-at .ensures)
 
 returns-4 : tie.Need-returns-4
-returns-4 c = c .status-of .ensures ∙ ap (λ (x : Channel). statusOf x (c .before .before .before .c2 .given .0 .1 .0)) (c .before .channel-of2 .ensures) ∙ told (c .before .before .before .before .before .before .before .args .settings .now) (c .before .before .before .before .before .before .before .args .card) (c .before .before .before .before .before .before .before .args .address) (c .before .before .before .c2 .given .1) (c .before .before .before .before .before .register-at .ensures)
+returns-4 c = c .overflow-of .ensures ∙ ap (λ (x : Channel). x .shown .overflow) (c .before .channel-of3 .ensures) ∙ told (c .before .before .before .before .before .before .before .args .settings .now) (c .before .before .before .before .before .before .before .args .card) (c .before .before .before .before .before .before .before .args .address) (c .before .before .before .c3 .given .1) (c .before .before .before .before .before .register-at .ensures)
 
 returns-5 : tie.Need-returns-5
-returns-5 c = c .overflow-of .ensures ∙ ap (λ (x : Channel). x .shown .overflow) (c .before .channel-of3 .ensures) ∙ told (c .before .before .before .before .before .before .before .args .settings .now) (c .before .before .before .before .before .before .before .args .card) (c .before .before .before .before .before .before .before .args .address) (c .before .before .before .c3 .given .1) (c .before .before .before .before .before .register-at .ensures)
+returns-5 c = c .image .ensures ∙ told (c .before .before .before .before .before .before .args .settings .now) (c .before .before .before .before .before .before .args .card) (c .before .before .before .before .before .before .args .address) (c .before .before .e .given .1) (c .before .before .before .before .register-at .ensures)
 
 returns-6 : tie.Need-returns-6
-returns-6 c = c .get3 .ensures ∙ told (c .before .before .before .before .before .args .settings .now) (c .before .before .before .before .before .args .card) (c .before .before .before .before .before .args .address) (c .before .enum-told3 .given .1) (c .before .before .before .register-at .ensures)
+returns-6 c = told (c .before .before .before .before .args .settings .now) (c .before .before .before .before .args .card) (c .before .before .before .before .args .address) (c .enum-told .given .1) (c .before .before .register-at .ensures)
 
 returns-7 : tie.Need-returns-7
-returns-7 c = c .image .ensures ∙ told (c .before .before .before .before .before .before .args .settings .now) (c .before .before .before .before .before .before .args .card) (c .before .before .before .before .before .before .args .address) (c .before .before .e .given .1) (c .before .before .before .before .register-at .ensures)
+returns-7 c = told (c .before .before .before .before .args .settings .now) (c .before .before .before .before .args .card) (c .before .before .before .before .args .address) (c .enum-told2 .given .1) (c .before .before .register-at .ensures)
 
 returns-8 : tie.Need-returns-8
-returns-8 c = told (c .before .before .before .before .args .settings .now) (c .before .before .before .before .args .card) (c .before .before .before .before .args .address) (c .enum-told4 .given .1) (c .before .before .register-at .ensures)
+returns-8 c = c .count-of .ensures ∙ told (c .before .before .before .before .before .before .args .settings .now) (c .before .before .before .before .before .before .args .card) (c .before .before .before .before .before .before .args .address) (c .before .before .level .given .1) (c .before .before .before .before .register-at .ensures)
 
 returns-9 : tie.Need-returns-9
-returns-9 c = told (c .before .before .before .before .args .settings .now) (c .before .before .before .before .args .card) (c .before .before .before .before .args .address) (c .enum-told5 .given .1) (c .before .before .register-at .ensures)
-
-returns-10 : tie.Need-returns-10
-returns-10 c = told (c .before .before .before .before .args .settings .now) (c .before .before .before .before .args .card) (c .before .before .before .before .args .address) (c .enum-told6 .given .1) (c .before .before .register-at .ensures)
-
-returns-11 : tie.Need-returns-11
-returns-11 c = told (c .before .before .before .before .args .settings .now) (c .before .before .before .before .args .card) (c .before .before .before .before .args .address) (c .enum-told7 .given .1) (c .before .before .register-at .ensures)
-
-returns-12 : tie.Need-returns-12
-returns-12 c = c .count-of .ensures ∙ told (c .before .before .before .before .before .before .args .settings .now) (c .before .before .before .before .before .before .args .card) (c .before .before .before .before .before .before .args .address) (c .before .before .level .given .1) (c .before .before .before .before .register-at .ensures)
-
-returns-13 : tie.Need-returns-13
-returns-13 c = told (c .before .before .before .before .args .settings .now) (c .before .before .before .before .args .card) (c .before .before .before .before .args .address) (c .enum-told8 .given .1) (c .before .before .register-at .ensures)
+returns-9 c =
+    let a = c .before .before .before .args in
+    let read = readAt (a .settings .now) (a .card) (a .address) in
+    sym (alike read 0 (7 ∷ 8 ∷ 12 ∷ []) (λ v. refl, (λ v. refl, (λ v. refl, tt))) (c .before .register-at .result) (c .match .keys9)) ∙ ap read (c .before .register-at .ensures)
 
 pub read-word-spec : {M : Type 1} → statement M
 read-word-spec =
     tie.close
     (tie.spec
     register-at-requires
-    enum-told
     get-requires
-    enum-told-2
-    get-requires-2
     enum-known-c
     channel-of-requires
     output-of-requires
@@ -147,17 +116,12 @@ read-word-spec =
     enum-known-c-3
     channel-of-requires-3
     overflow-of-requires
-    enum-told-3
-    get-requires-3
     enum-known-e
     image-requires
-    enum-told-4
-    enum-told-5
-    enum-told-6
-    enum-told-7
+    enum-told
+    enum-told-2
     enum-known-level
     count-of-requires
-    enum-told-8
     returns
     returns-2
     returns-3
@@ -166,8 +130,4 @@ read-word-spec =
     returns-6
     returns-7
     returns-8
-    returns-9
-    returns-10
-    returns-11
-    returns-12
-    returns-13)
+    returns-9)

@@ -24,6 +24,9 @@ loop-holds c = let a = c .before .before .before .args in (search needs, write-s
 add-a : tie.Need-add-a Inv-loop μ-loop
 add-a c = search needs
 
+ended-requires : tie.Need-ended-requires Inv-loop μ-loop
+ended-requires c κs = search needs
+
 same-length : tie.Need-same-length Inv-loop μ-loop
 same-length c = search needs
 
@@ -32,10 +35,10 @@ same-length-2 c = search needs
 
 returns : tie.Need-returns Inv-loop μ-loop
 returns c =
-    let a = c .before .before .before .before .before .before .args in
-    let t = c .before .before .loop in
-    let e = sym (write-beyond (state (t .k) (t .settings) (t .tables)) (a .start) (a .last) (a .words .now) (a .count) (t .i) (c .before .before .before .before .before .before .pre .0) (c .before .loop-test .taken) (c .if1 .taken)) ∙ t .inv .1 in
-    (ap written e, ap (λ (o : Out). o .state .settings) e, ap (λ (o : Out). o .state .tables) e)
+    let a = c .before .before .before .before .before .before .before .args in
+    let t = c .before .before .before .loop in
+    let e = sym (write-beyond (state (t .k) (t .settings) (t .tables)) (a .start) (a .last) (a .words .now) (a .count) (t .i) (c .before .before .before .before .before .before .before .pre .0) (c .before .before .loop-test .taken) (c .before .if1 .taken)) ∙ t .inv .1 in
+    (c .ended .ensures ∙ ap written e, ap (λ (o : Out). o .state .settings) e, ap (λ (o : Out). o .state .tables) e)
 
 cast-write-word : tie.Need-cast-write-word Inv-loop μ-loop
 cast-write-word c = search needs
@@ -52,6 +55,9 @@ enum-told c = search needs
 enum-known-v : tie.Need-enum-known-v Inv-loop μ-loop
 enum-known-v c = search needs
 
+ended-requires-2 : tie.Need-ended-requires-2 Inv-loop μ-loop
+ended-requires-2 c κs = search needs
+
 same-length-3 : tie.Need-same-length-3 Inv-loop μ-loop
 same-length-3 c = search needs
 
@@ -60,14 +66,14 @@ same-length-4 c = search needs
 
 returns-2 : tie.Need-returns-2 Inv-loop μ-loop
 returns-2 c =
-    let a = c .before .before .before .before .before .before .before .before .before .before .before .before .before .before .before .before .before .before .args in
-    let t = c .before .before .before .before .before .before .before .before .before .before .before .before .before .before .loop in
+    let a = c .before .before .before .before .before .before .before .before .before .before .before .before .before .before .before .before .before .before .before .args in
+    let t = c .before .before .before .before .before .before .before .before .before .before .before .before .before .before .before .loop in
     let st : State = state (t .k) (t .settings) (t .tables) in
-    let w = c .before .before .before .before .before .before .before .before .write-word in
+    let w = c .before .before .before .before .before .before .before .before .before .write-word in
     let o : One = one (state (w .result .card) (w .last .0) (w .last .1 .0)) (w .result .verdict) in
-    let is : o ≡ writeWord st (a .start + t .i) (getD (a .words .now) (t .i) 0) = made _ (w .ensures .0) (w .ensures .1) (w .ensures .2) (w .ensures .3) ∙ ap (writeWord st (a .start + t .i)) (c .before .before .before .before .before .before .before .before .before .get .ensures) in
-    let e = sym (write-stop st (a .start) (a .last) (a .words .now) (a .count) (t .i) (c .before .before .before .before .before .before .before .before .before .before .before .before .before .before .before .before .before .before .pre .0) (c .before .before .before .before .before .before .before .before .before .before .before .before .before .loop-test .taken) (c .before .before .before .before .before .before .before .before .before .before .before .before .if1 .left) o is _ (c .before .v .given .1)) ∙ t .inv .1 in
-    (ap written e, ap (λ (x : Out). x .state .settings) e, ap (λ (x : Out). x .state .tables) e)
+    let is : o ≡ writeWord st (a .start + t .i) (getD (a .words .now) (t .i) 0) = made _ (w .ensures .0) (w .ensures .1) (w .ensures .2) (w .ensures .3) ∙ ap (writeWord st (a .start + t .i)) (c .before .before .before .before .before .before .before .before .before .before .get .ensures) in
+    let e = sym (write-stop st (a .start) (a .last) (a .words .now) (a .count) (t .i) (c .before .before .before .before .before .before .before .before .before .before .before .before .before .before .before .before .before .before .before .pre .0) (c .before .before .before .before .before .before .before .before .before .before .before .before .before .before .loop-test .taken) (c .before .before .before .before .before .before .before .before .before .before .before .before .before .if1 .left) o is _ (c .before .before .v .given .1)) ∙ t .inv .1 in
+    (c .ended2 .ensures ∙ ap written e, ap (λ (x : Out). x .state .settings) e, ap (λ (x : Out). x .state .tables) e)
 
 add-i : tie.Need-add-i Inv-loop μ-loop
 add-i c = search needs
@@ -86,6 +92,9 @@ loop-again c =
     let on = write-on st (a .start) (a .last) (a .words .now) (a .count) (t .i) (c .before .before .before .before .before .before .before .before .before .before .before .before .before .before .before .before .before .pre .0) (c .before .before .before .before .before .before .before .before .before .before .before .before .loop-test .taken) (c .before .before .before .before .before .before .before .before .before .before .before .if1 .left) o is (c .enum-told .given .1) in
     (omega (arith, c .before .before .before .before .before .before .before .before .before .before .before .before .loop-test .taken), on ∙ t .inv .1, w .kept .0 ∙ t .inv .2, w .kept .1 .0 ∙ t .inv .3)
 
+ended-requires-3 : tie.Need-ended-requires-3 Inv-loop μ-loop
+ended-requires-3 c κs = search needs
+
 same-length-5 : tie.Need-same-length-5 Inv-loop μ-loop
 same-length-5 c = search needs
 
@@ -94,10 +103,10 @@ same-length-6 c = search needs
 
 returns-3 : tie.Need-returns-3 Inv-loop μ-loop
 returns-3 c =
-    let a = c .before .before .before .before .before .args in
-    let t = c .before .loop in
-    let e = sym (write-end (state (t .k) (t .settings) (t .tables)) (a .start) (a .last) (a .words .now) (a .count) (t .i) (c .before .before .before .before .before .pre .0) (le-antisymm (t .inv .0) (c .loop-test .left))) ∙ t .inv .1 in
-    (ap written e, ap (λ (o : Out). o .state .settings) e, ap (λ (o : Out). o .state .tables) e)
+    let a = c .before .before .before .before .before .before .args in
+    let t = c .before .before .loop in
+    let e = sym (write-end (state (t .k) (t .settings) (t .tables)) (a .start) (a .last) (a .words .now) (a .count) (t .i) (c .before .before .before .before .before .before .pre .0) (le-antisymm (t .inv .0) (c .before .loop-test .left))) ∙ t .inv .1 in
+    (c .ended3 .ensures ∙ ap written e, ap (λ (o : Out). o .state .settings) e, ap (λ (o : Out). o .state .tables) e)
 
 pub write-words-spec : {M : Type 1} → statement M
 write-words-spec =
@@ -107,6 +116,7 @@ write-words-spec =
     μ-loop
     loop-holds
     add-a
+    ended-requires
     same-length
     same-length-2
     returns
@@ -115,12 +125,14 @@ write-words-spec =
     write-word-requires
     enum-told
     enum-known-v
+    ended-requires-2
     same-length-3
     same-length-4
     returns-2
     add-i
     loop-less
     loop-again
+    ended-requires-3
     same-length-5
     same-length-6
     returns-3)
