@@ -137,5 +137,7 @@ demand1 =
       write =
           λ st start count ws. let y = written st start count ws in
           record { exact = exactly _ _ count _ (y .given); done = y .done; eight = eight-first st start count ws _ _ (y .given) };
-      read = λ st start count ws. let y = was-read st start count ws in record { exact = exactly _ _ count _ (y .given); filled = y .filled };
+      read =
+          λ st start count ws. let y = was-read st start count ws in
+          record { exact = exactly _ _ count _ (y .given); long = y .long; words = y .words; rest = y .rest };
     }

@@ -17,7 +17,8 @@ use Rattle.transfer.specs.declared.Answer.{Answer}
 use Rattle.transfer.specs.declared.Answer.the-variants.{Done, BadCount, NoRegion, NoAccess, Beyond}
 use Rattle.transfer.specs.Word.{readWord}
 use Rattle.transfer.specs.Transfer.{Filled, numberOf, processedOf, badCount, readable, filled, readWords, readIn, readOf}
-use Rattle.history.specs.Numbers.{first, once, readRefusal, Given, Once, Stopped, All, SliceFilled}
+use Rattle.history.specs.History.{readBack}
+use Rattle.history.specs.Numbers.{first, once, readRefusal, Given, Once, Stopped, All}
 use Rattle.history.proofs.Writing.{Ends, whole, stop, good-count}
 
 record Scan (q : Region) (s : List ℕ) (k : Card) (a i n : ℕ) (ws : List ℕ) (o : Filled) : Type 0 where
@@ -103,12 +104,14 @@ scan q s k a i (suc n) ws h = go (ltb (q .last) a) refl (scan q s k (a + 1) (i +
 
 pub record ReadSo (r : Found) (st : State) (start count : ℕ) (ws : List ℕ) (o : Filled) : Type 0 where
   pub given : Given (first (once readable r count ws)) (readRefusal r start) count (numberOf (o .answer)) (processedOf (o .answer))
-  pub filled : SliceFilled st start (processedOf (o .answer)) ws (o .words)
+  pub long : length (o .words) ≡ length ws
+  pub words : (i : ℕ) → i < processedOf (o .answer) → getD (o .words) i 0 ≡ readBack st (start + i)
+  pub rest : (i : ℕ) → processedOf (o .answer) ≤ i → getD (o .words) i 0 ≡ getD ws i 0
 
 nothing-read : (r : Found) (st : State) (start count : ℕ) (ws : List ℕ) (w : Answer) → first (once readable r count ws) ≡ numberOf w → 1 ≤ numberOf w → processedOf w ≡ 0
     → ReadSo r st start count ws (filled ws w)
 nothing-read r st start count ws w e f g =
-    record { given = Once e f g; filled = record { long = refl; words = λ i h. absurd (omega arith); rest = λ i h. refl } }
+    record { given = Once e f g; long = refl; words = λ i h. absurd (omega arith); rest = λ i h. refl }
 
 pub was-read : (st : State) (start count : ℕ) (ws : List ℕ) → ReadSo (regionOf start) st start count ws (readOf (st .settings) (st .card) start count ws)
 unfolding readOf
@@ -118,12 +121,9 @@ was-read st start count ws = go (badCount count (length ws)) refl (regionOf star
     scanned q o e r =
         record {
           given = by (r .ends);
-          filled =
-              record {
-                long = r .long;
-                words = λ i h. let x : 0 + i ≡ i = omega arith in ap (λ (m : ℕ). getD (o .words) m 0) (sym x) ∙ r .words i (omega (arith, r .count));
-                rest = λ i h. r .rest i (omega (arith, r .count));
-              };
+          long = r .long;
+          words = λ i h. let x : 0 + i ≡ i = omega arith in ap (λ (m : ℕ). getD (o .words) m 0) (sym x) ∙ r .words i (omega (arith, r .count));
+          rest = λ i h. r .rest i (omega (arith, r .count));
         }
       where
         m : r .many ≡ processedOf (o .answer)

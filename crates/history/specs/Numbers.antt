@@ -12,7 +12,7 @@ use Rattle.map.specs.Map.{regionOf, registerOf, acceptedAt, inRegion}
 use Rattle.card.specs.Card.{State}
 use Rattle.transfer.specs.declared.Answer.{Answer}
 use Rattle.transfer.specs.Word.{fixedAt, heldAt, runningAt}
-use Rattle.transfer.specs.Transfer.{numberOf, processedOf, badCount, writable, readable, writeOf, readOf}
+use Rattle.transfer.specs.Transfer.{Out, Filled, numberOf, processedOf, badCount, writable, readable, writeOf, readOf}
 use Rattle.history.specs.History.{readBack, doneFrom}
 
 -- ---- the table
@@ -80,24 +80,21 @@ pub record Exact (o : ℕ) (f : ℕ → ℕ) (count : ℕ) (w : Answer) : Type 0
   pub given : Given o f count (numberOf w) (processedOf w)
   pub only : (n p : ℕ) → Given o f count n p → (n ≡ numberOf w) × (p ≡ processedOf w)
 
--- 'Words before the stopping word are done with all their effects, and nothing else changes.'
-pub record WriteAnswered (st : State) (start count : ℕ) (ws : List ℕ) : Type 0 where
-  pub exact : Exact (first (once writable (regionOf start) count ws)) (writeRefusal (regionOf start) st start ws) count (writeOf st start count ws .answer)
-  pub done : writeOf st start count ws .state ≡ doneFrom st start (take (processedOf (writeOf st start count ws .answer)) ws)
+-- a write comes to o. 'Words before the stopping word are done with all their effects, and nothing else changes.'
+pub record WriteAnswered (st : State) (start count : ℕ) (ws : List ℕ) (o : Out) : Type 0 where
+  pub exact : Exact (first (once writable (regionOf start) count ws)) (writeRefusal (regionOf start) st start ws) count (o .answer)
+  pub done : o .state ≡ doneFrom st start (take (processedOf (o .answer)) ws)
   -- 8: 'Processed 0'
-  pub eight : numberOf (writeOf st start count ws .answer) ≡ 8 → processedOf (writeOf st start count ws .answer) ≡ 0
+  pub eight : numberOf (o .answer) ≡ 8 → processedOf (o .answer) ≡ 0
 
--- 'A read fills the slice's first processed words and has no other effect; the rest of the slice stays.'
-pub record SliceFilled (st : State) (start p : ℕ) (ws filled : List ℕ) : Type 0 where
-  pub long : length filled ≡ length ws
-  pub words : (i : ℕ) → i < p → getD filled i 0 ≡ readBack st (start + i)
-  pub rest : (i : ℕ) → p ≤ i → getD filled i 0 ≡ getD ws i 0
-
-pub record ReadAnswered (st : State) (start count : ℕ) (ws : List ℕ) : Type 0 where
-  pub exact : Exact (first (once readable (regionOf start) count ws)) (readRefusal (regionOf start) start) count (readOf (st .settings) (st .card) start count ws .answer)
-  pub filled : SliceFilled st start (processedOf (readOf (st .settings) (st .card) start count ws .answer)) ws (readOf (st .settings) (st .card) start count ws .words)
+-- a read comes to o. 'A read fills the slice's first processed words and has no other effect; the rest of the slice stays.'
+pub record ReadAnswered (st : State) (start count : ℕ) (ws : List ℕ) (o : Filled) : Type 0 where
+  pub exact : Exact (first (once readable (regionOf start) count ws)) (readRefusal (regionOf start) start) count (o .answer)
+  pub long : length (o .words) ≡ length ws
+  pub words : (i : ℕ) → i < processedOf (o .answer) → getD (o .words) i 0 ≡ readBack st (start + i)
+  pub rest : (i : ℕ) → processedOf (o .answer) ≤ i → getD (o .words) i 0 ≡ getD ws i 0
 
 -- DEMAND 1 of every transfer in every state
 pub record Demand1 : Type 0 where
-  pub write : (st : State) (start count : ℕ) (ws : List ℕ) → WriteAnswered st start count ws
-  pub read : (st : State) (start count : ℕ) (ws : List ℕ) → ReadAnswered st start count ws
+  pub write : (st : State) (start count : ℕ) (ws : List ℕ) → WriteAnswered st start count ws (writeOf st start count ws)
+  pub read : (st : State) (start count : ℕ) (ws : List ℕ) → ReadAnswered st start count ws (readOf (st .settings) (st .card) start count ws)

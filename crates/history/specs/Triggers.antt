@@ -90,13 +90,13 @@ abbrev pub lastActive : State → List Act → Active → Active
 lastActive st [] old = old
 lastActive st (x ∷ xs) old = lastActive (act st x) xs (activeAfter (triggerBy st x) x old)
 
--- after any history of a card that was reset
-pub record ActiveShown (s l : List ℕ) (xs : List Act) : Type 0 where
-  pub level : readBack (acts (resetOf s l) xs) 0x4210 ≡ lastActive (resetOf s l) xs (active 0 0xFE) .level
-  pub event : readBack (acts (resetOf s l) xs) 0x4211 ≡ lastActive (resetOf s l) xs (active 0 0xFE) .event
+pub record ActiveShown (st : State) (x : Active) : Type 0 where
+  pub level : readBack st 0x4210 ≡ x .level
+  pub event : readBack st 0x4211 ≡ x .event
 
+-- after any history of a card that was reset
 unfoldable pub ActiveRight : Type 0
-ActiveRight = (s l : List ℕ) (xs : List Act) → ActiveShown s l xs
+ActiveRight = (s l : List ℕ) (xs : List Act) → ActiveShown (acts (resetOf s l) xs) (lastActive (resetOf s l) xs (active 0 0xFE))
 
 -- ---- the event image
 
