@@ -12,14 +12,14 @@ use Rattle.card.specs.Card.{State, state}
 abbrev pub scalesReset : ℕ → List ℕ → List ℕ
 scalesReset c s = filled 32 s (scaleAt c 0) 0x0100
 
--- 'scale factors 0x0100; trigger slots 0xFE; all else 0': 0x4240 words, one for every address up to the map's last
+-- 'scale factors 0x0100', 'trigger slots .. are 0xFE', 'all else 0': 0x4240 words, one for every address up to the map's last
 unfoldable pub settingsReset : List ℕ → List ℕ
 settingsReset s = erased (scalesReset 3 (scalesReset 2 (scalesReset 1 (scalesReset 0 (filled 0x4240 s 0 0)))))
 
 unfoldable pub tablesReset : List ℕ → List ℕ
 tablesReset l = filled 512 l 0 0
 
--- '0x4211 is 0xFE; all else 0; no countdown, no ramp'
+-- '0x4211 .. 0xFE', 'all else 0', 'no countdown, no ramp'
 unfoldable pub cardReset : Card
 cardReset =
     record {

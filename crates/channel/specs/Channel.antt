@@ -78,7 +78,7 @@ loadedFor s c level =
 abbrev pub blank : Shown → Shown
 blank s = record { output = s .output; place = place 0 0; overflow = s .overflow }
 
--- 'a running ramp is aborted and its output held; table, scale factor and offset are copied'
+-- 'a running ramp is aborted and its output held; table, scale factor and offset for the pending level are copied'
 unfoldable pub load : List ℕ → List ℕ → ℕ → Channel → ℕ → Side
 load s l c ch level =
     side
@@ -128,7 +128,7 @@ triggered s l c ch level =
     (record { phase = Counting (record { 0 = countdown s c level }) (rampOf (ch .phase)); level = level; loaded = ch .loaded; shown = ch .shown })
     l)
 
--- ---- after a reset: 'loaded scale factor 0x0100; all else 0; no countdown, no ramp'
+-- ---- after a reset: 'loaded scale factor 0x0100', 'all else 0', 'no countdown, no ramp'
 abbrev pub resetChannel : Channel
 resetChannel =
     record {

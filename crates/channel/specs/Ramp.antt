@@ -34,7 +34,7 @@ sampleAt w first l p =
     (sampleOf (l .scale) (valueAt w first (p .segment)) (valueAt w first (p .segment)) 0 0 (l .offset))
     (sampleOf (l .scale) (valueAt w first (p .segment)) (valueAt w first (p .segment + 1)) (stepAt w first (p .segment)) (p .left .0) (l .offset))
 
--- 'outside the range the output stays and A39 grows by 1'; 'A33 and A34 show the last sample's n and m'
+-- 'outside −32768..32767 the output stays and A39 grows by 1'; 'A33 and A34 show the last sample's n and m'
 abbrev pub put : Sum → Place → Shown → Shown
 put (Word v) p s = record { output = v; place = p; overflow = s .overflow }
 put Overflow p s = record { output = s .output; place = p; overflow = grown (s .overflow) }

@@ -12,7 +12,7 @@ use Rattle.channel.specs.Channel.{Side, word, loadedFor, countdown, triggered}
 use Rattle.course.specs.Course.{Act, Tick, act, run, ticks, before, heldOn}
 use Rattle.course.specs.Follows.{tableFor, totalFor, placeFor}
 
--- 'the rounded sum, or, where that overflows, the output held just before'
+-- 'the rounded sum .. or, where that overflows, the output held just before'
 abbrev pub hold : Sum → ℕ → ℕ
 hold (Word v) o = v
 hold Overflow o = o

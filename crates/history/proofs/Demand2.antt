@@ -1,9 +1,23 @@
 -- Demand 2, of its parts. Assumes nothing.
-use Rattle.history.specs.Demand2.{Demand2}
+use mathlib.Core.Path.{_≡_, refl, ap, _∙_}
+use Prim.Native.Nat.{ℕ, zero, suc}
+use Rattle.slots.specs.declared.Holder.the-variants.{Nobody}
+use Rattle.card.specs.Card.{State}
+use Rattle.card.specs.Trigger.{acceptedOf}
+use Rattle.card.specs.Tick.{advanced, ticks}
+use Rattle.history.specs.History.{acts, idle}
+use Rattle.history.specs.Demand2.{TicksAre, Demand2}
 use Rattle.history.proofs.Settings.{settings-kept}
 use Rattle.history.proofs.Counts.{counts-right}
-use Rattle.history.proofs.Triggers.{trigger-rule, countdowns-set, active-right, image-right}
+use Rattle.history.proofs.Triggers.{trigger-rule, active-right, image-right}
 use Rattle.history.proofs.Story.{channels-right, at-rest}
+use Rattle.history.proofs.Countdowns.{countdowns-set, older-goes-on}
+
+-- N TICKS ARE N ACTS
+pub ticks-are : TicksAre
+unfolding TicksAre ticks acceptedOf
+ticks-are zero st = refl
+ticks-are (suc n) st = ticks-are n (advanced st)
 
 -- DEMAND 2
 pub demand2 : Demand2
@@ -15,6 +29,8 @@ demand2 =
       countdowns = countdowns-set;
       active = active-right;
       image = image-right;
-      channels = channels-right;
       rest = at-rest;
+      channels = channels-right;
+      older = older-goes-on;
+      ticks = ticks-are;
     }

@@ -21,6 +21,8 @@ use Rattle.course.proofs.Acts.{tick-elsewhere, trigger-elsewhere, run-length, h
 use Rattle.course.proofs.Appends.{run-append, ticks-append, held-later}
 use Rattle.course.proofs.Follows.{demand3}
 use Rattle.history.specs.History.{Act, Tick, Write, Read, Reset, act, acts, triggerBy, Quiet, ticksIn, until}
+use Rattle.history.specs.Triggers.{eventBy}
+use Rattle.history.specs.Countdowns.{justBefore}
 use Rattle.history.specs.Demand3.{sideAt, Demand3}
 use Rattle.history.proofs.Cards.{count-channels}
 use Rattle.history.proofs.Turns.{Turn, turn}
@@ -167,14 +169,7 @@ module _ (c : ℕ) (inside : c < 4) where
 
 -- ---- the trigger
 
--- an act that is a trigger triggers some state with as much room in the tables
-pub record Triggers (st : State) (x : Act) (level : ℕ) : Type 0 where
-  pub from : State
-  pub event : ℕ
-  pub is : act st x ≡ triggerOf from level event
-  pub room : length (from .tables) ≡ length (st .tables)
-
-advanced-room : (st : State) → length (advanced st .tables) ≡ length (st .tables)
+pub advanced-room : (st : State) → length (advanced st .tables) ≡ length (st .tables)
 advanced-room st =
     let y = tick-turn st 0 (omega arith) in
     ap (λ (x : Side). length (x .tables)) (sym (tick-goes st 0 y))
@@ -183,14 +178,18 @@ advanced-room st =
     ∙ ap (λ (x : Side). length (x .tables)) (sym (y .comes))
     ∙ run-length 0 (sideAt st 0) (y .before)
 
-pub triggers : (st : State) (x : Act) (level : ℕ) → triggerBy st x ≡ Level level → Triggers st x level
-triggers st (Tick event) level e = record { from = advanced st; event = event; is = by; room = advanced-room st }
-  where
-    by : act st (Tick event) ≡ triggerOf (advanced st) level event
-    by = rw (advanced-settings st, e)
-triggers st (Write start count ws) level e = record { from = st; event = 0xFE; is = manual-write st start count ws level e; room = refl }
-triggers st (Read start count ws) level e = let z : _≡_ {A = ℕ} 0 1 = cc in absurd (omega arith)
-triggers st Reset level e = let z : _≡_ {A = ℕ} 0 1 = cc in absurd (omega arith)
+-- AN ACT THAT IS A TRIGGER TRIGGERS THE STATE THAT IT COMES TO
+pub trigger-is : (st : State) (x : Act) (level : ℕ) → triggerBy st x ≡ Level level → act st x ≡ triggerOf (justBefore st x) level (eventBy x)
+trigger-is st (Tick event) level e = rw (advanced-settings st, e)
+trigger-is st (Write start count ws) level e = manual-write st start count ws level e
+trigger-is st (Read start count ws) level e = let z : _≡_ {A = ℕ} 0 1 = cc in absurd (omega arith)
+trigger-is st Reset level e = let z : _≡_ {A = ℕ} 0 1 = cc in absurd (omega arith)
+
+pub before-room : (st : State) (x : Act) → length (justBefore st x .tables) ≡ length (st .tables)
+before-room st (Tick event) = advanced-room st
+before-room st (Write start count ws) = refl
+before-room st (Read start count ws) = refl
+before-room st Reset = refl
 
 -- ---- demand 3
 
@@ -298,7 +297,8 @@ module _ (c : ℕ) (inside : c < 4) (from : State) (level event : ℕ) (k : Stat
 pub demand3-card : Demand3
 unfolding Demand3
 demand3-card st room x level is xs event quiet none c inside =
-    let t = triggers st x level is in
-    let r = tracked c inside (act st x) xs (rw (t .is) (trigger-four (t .from) level (t .event))) quiet in
-    follows c inside (t .from) level (t .event) (act st x) (t .is) xs (trigger-turn (t .from) level c inside) r (tick-turn (acts (act st x) xs) c inside)
-    (rw (t .room) room) (act (acts (act st x) xs) (Tick event)) (quiet-tick (acts (act st x) xs) event none)
+    let k = justBefore st x in
+    let t = trigger-is st x level is in
+    let r = tracked c inside (act st x) xs (rw t (trigger-four k level (eventBy x))) quiet in
+    follows c inside k level (eventBy x) (act st x) t xs (trigger-turn k level c inside) r (tick-turn (acts (act st x) xs) c inside)
+    (rw (before-room st x) room) (act (acts (act st x) xs) (Tick event)) (quiet-tick (acts (act st x) xs) event none)

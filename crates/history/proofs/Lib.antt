@@ -11,12 +11,14 @@ pub mod Effects
 pub mod Writing
 pub mod Reading
 pub mod Numbers
+pub mod Demand1
 pub mod Turns
 pub mod Done
 pub mod Manual
 pub mod Demand3
-pub mod Counts
 pub mod Settings
+pub mod Counts
 pub mod Triggers
 pub mod Story
+pub mod Countdowns
 pub mod Demand2

@@ -1,4 +1,4 @@
--- Demand 1 of transfers (`demand1`): a transfer's answer is in one row of the table, and no answer is in two (`one-row`). Assumes nothing.
+-- A transfer's answer is in one row of the table (`write-answered`, `read-answered`), and no answer is in two (`one-row`). Assumes nothing.
 use mathlib.Core.Path.{_≡_, refl, sym, ap, _∙_}
 use mathlib.Core.Bool.{Bool, true, false, not, true≢false}
 use mathlib.Core.List.{List, [], _∷_}
@@ -21,9 +21,9 @@ use Rattle.card.specs.declared.Card.{Card}
 use Rattle.card.specs.Card.{State}
 use Rattle.transfer.specs.declared.Answer.{Answer}
 use Rattle.transfer.specs.Word.{fixedAt, heldAt, runningAt}
-use Rattle.transfer.specs.Transfer.{numberOf, processedOf, badCount, writable}
+use Rattle.transfer.specs.Transfer.{numberOf, processedOf, badCount, writable, writeOf, readOf}
 use Rattle.history.specs.History.{doneFrom}
-use Rattle.history.specs.Numbers.{case, first, once, toWrite, writeRefusal, Given, Once, Stopped, All, Exact, Demand1}
+use Rattle.history.specs.Numbers.{case, first, once, toWrite, writeRefusal, Given, Once, Stopped, All, Exact, WriteAnswered, ReadAnswered}
 use Rattle.history.proofs.Addresses.{Sits, sits}
 use Rattle.history.proofs.Writing.{written}
 use Rattle.history.proofs.Reading.{was-read}
@@ -130,14 +130,13 @@ eight-first : (st : State) (start count : ℕ) (ws : List ℕ) (n p : ℕ)
     → Given (first (once writable (regionOf start) count ws)) (writeRefusal (regionOf start) st start ws) count n p → n ≡ 8 → p ≡ 0
 eight-first st start count ws n p g e = eight-alone st start count ws p (rw e at g)
 
--- DEMAND 1 OF TRANSFERS
-pub demand1 : Demand1
-demand1 =
-    record {
-      write =
-          λ st start count ws. let y = written st start count ws in
-          record { exact = exactly _ _ count _ (y .given); done = y .done; eight = eight-first st start count ws _ _ (y .given) };
-      read =
-          λ st start count ws. let y = was-read st start count ws in
-          record { exact = exactly _ _ count _ (y .given); long = y .long; words = y .words; rest = y .rest };
-    }
+-- EVERY TRANSFER GETS ITS NUMBER, EXACTLY IN ITS CASE
+pub write-answered : (st : State) (start count : ℕ) (ws : List ℕ) → WriteAnswered st start count ws (writeOf st start count ws)
+write-answered st start count ws =
+    let y = written st start count ws in
+    record { exact = exactly _ _ count _ (y .given); done = y .done; eight = eight-first st start count ws _ _ (y .given) }
+
+pub read-answered : (st : State) (start count : ℕ) (ws : List ℕ) → ReadAnswered st start count ws (readOf (st .settings) (st .card) start count ws)
+read-answered st start count ws =
+    let y = was-read st start count ws in
+    record { exact = exactly _ _ count _ (y .given); long = y .long; words = y .words; rest = y .rest }

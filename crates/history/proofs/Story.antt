@@ -143,7 +143,7 @@ placed-enter w first n h = go (isEnd n (stepAt w first n)) refl
     go true e = record { most = h; inner = λ z. absurd (omega arith) }
     go false e = record { most = h; inner = λ z. W.on n (stepAt w first n) e .0 }
 
-placed-next : (w : List ℕ) (first : ℕ) (p : Place) → p .segment < 63 → Placed (next w first p)
+pub placed-next : (w : List ℕ) (first : ℕ) (p : Place) → p .segment < 63 → Placed (next w first p)
 unfolding next
 placed-next w first p h = go (ltb 1 (p .left .0))
   where
@@ -172,7 +172,7 @@ module _ (s l m : List ℕ) (c : ℕ) (ch : Channel) (same : SameTable m (firstO
   same-tick (Running p t) h = same-ramp (Going p t) h
 
 -- acts without a tick leave channel c's words
-untimed : (c : ℕ) (x : Side) (ys : List C.Act) → C.ticks ys ≡ 0 → 128 * c + 128 ≤ length (x .tables) → SameTable (C.run c x ys .tables) (firstOf c) (x .tables) (firstOf c)
+pub untimed : (c : ℕ) (x : Side) (ys : List C.Act) → C.ticks ys ≡ 0 → 128 * c + 128 ≤ length (x .tables) → SameTable (C.run c x ys .tables) (firstOf c) (x .tables) (firstOf c)
 untimed c x [] e h i f = refl
 untimed c x (C.Tick s ∷ ys) e h i f = absurd (omega arith)
 untimed c x (C.Elsewhere l ∷ ys) e h i f =

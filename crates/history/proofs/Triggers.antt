@@ -12,8 +12,7 @@ use Rattle.slots.specs.declared.Holder.{Holder}
 use Rattle.slots.specs.declared.Holder.the-variants.{Level, Nobody}
 use Rattle.slots.specs.Slots.{levelOf, holderOf, imageAt}
 use Rattle.slots.proofs.Holders.{level-held, nobody-if, holder-level}
-use Rattle.channel.specs.declared.Phase.the-variants.{Counting}
-use Rattle.channel.specs.Channel.{Side, side, word, lead, rampOf, load, countdown, triggered}
+use Rattle.channel.specs.Channel.{word}
 use Rattle.channel.specs.declared.Channel.{Channel}
 use Rattle.card.specs.declared.Card.{Card}
 use Rattle.card.specs.Card.{State, state, channelOf, withChannel, withCount}
@@ -25,13 +24,12 @@ use Rattle.transfer.specs.Transfer.{writeOf}
 use Rattle.history.specs.History.{Act, Tick, Write, Read, Reset, act, acts, readBack, wordsDone, manualAmong, triggerBy}
 use Rattle.history.specs.Effects.{Does, Keeps, Outputs, ClearsOverflow, ClearsCount, Erases, Idles, Triggers}
 use Rattle.history.specs.Sound.{Sound}
-use Rattle.history.specs.Triggers.{Holds, ByClock, ByHand, Accepted, TriggerRule, toStart, CountdownsSet, Active, active, activeAfter, lastActive, ActiveRight, ImageRight}
+use Rattle.history.specs.Triggers.{Holds, ByClock, ByHand, Accepted, TriggerRule, Active, active, activeAfter, lastActive, ActiveRight, ImageRight}
 use Rattle.history.proofs.Addresses.{clock-register, level-register, event-register, image-register}
 use Rattle.history.proofs.Effects.{passed-does}
 use Rattle.history.proofs.Writing.{write-by}
 use Rattle.history.proofs.Done.{none-first}
 use Rattle.history.proofs.Manual.{manual-write}
-use Rattle.history.proofs.Demand3.{trigger-turn, trigger-same, trigger-settings, triggers}
 
 -- ---- the rule of clock events
 
@@ -96,31 +94,6 @@ only st Reset level e = let z : _≡_ {A = ℕ} 0 1 = cc in absurd (omega arith)
 -- THE TRIGGERS OF A HISTORY ARE THOSE OF THE RULE
 pub trigger-rule : TriggerRule
 trigger-rule = record { accepted = accepted; only = only }
-
--- ---- the countdowns
-
-triggered-counts : (s l : List ℕ) (c : ℕ) (ch : Channel) (level : ℕ) → toStart (triggered s l c ch level .channel .phase) ≡ countdown s c level
-unfolding triggered load
-triggered-counts s l c ch level = go (eqb (countdown s c level) lead) refl
-  where
-    counting : Side
-    counting = side (record { phase = Counting (record { 0 = countdown s c level }) (rampOf (ch .phase)); level = level; loaded = ch .loaded; shown = ch .shown }) l
-
-    go : (b : Bool) → eqb (countdown s c level) lead ≡ b → toStart (cond b (load s l c ch level) counting .channel .phase) ≡ countdown s c level
-    go true e = sym (eqb-true (countdown s c level) lead e)
-    go false e = refl
-
--- EVERY ACCEPTED TRIGGER SETS EVERY COUNTDOWN ANEW
-pub countdowns-set : CountdownsSet
-unfolding CountdownsSet
-countdowns-set st x level e c h =
-    let t = triggers st x level e in
-    let k = t .from in
-    let y = trigger-turn k level c h in
-    ap (λ (z : State). toStart (channelOf (z .card) c .phase)) (t .is)
-    ∙ ap (λ (ch : Channel). toStart (ch .phase)) (sym (trigger-same k level (t .event) c y))
-    ∙ triggered-counts (k .settings) (y .mid) c (channelOf (k .card) c) level
-    ∙ ap (λ (s : List ℕ). countdown s c level) (sym (ap (λ (z : State). z .settings) (t .is) ∙ trigger-settings k level (t .event)))
 
 -- ---- 0x4210 and 0x4211
 

@@ -15,7 +15,7 @@ abbrev pub doesAt : ℕ → ℕ → List ℕ → Bool
 doesAt b a [] = false
 doesAt b a (v ∷ vs) = eqb a b || doesAt b (a + 1) vs
 
--- '4220..423F level counts: any, sets 0'; a reset clears them all
+-- 0x4220 to 0x423F: 'any, sets 0'; a reset clears them all
 abbrev pub clears : State → ℕ → Act → Bool
 clears st level (Tick event) = false
 clears st level (Write start count ws) = doesAt (0x4220 + level) start (wordsDone st start count ws)

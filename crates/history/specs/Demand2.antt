@@ -1,22 +1,34 @@
 -- Demand 2: 'Every read-back, counter and output sample is what the V473 manual says, as document 01 sets it out. A setting written reads
--- back the same until a write, an erase or a reset changes it.' Every word that can be read is of one of these.
+-- back the same until a write, an erase or a reset changes it.'
+use mathlib.Core.Path.{_≡_}
+use Prim.Native.Nat.{ℕ}
+use Rattle.card.specs.Card.{State}
+use Rattle.card.specs.Tick.{ticks}
+use Rattle.history.specs.History.{acts, idle}
 use Rattle.history.specs.Settings.{SettingsKept}
 use Rattle.history.specs.Counts.{CountsRight}
-use Rattle.history.specs.Triggers.{TriggerRule, CountdownsSet, ActiveRight, ImageRight}
+use Rattle.history.specs.Triggers.{TriggerRule, ActiveRight, ImageRight}
 use Rattle.history.specs.Story.{ChannelsRight, AtRest}
+use Rattle.history.specs.Countdowns.{CountdownsSet, OlderGoesOn}
+
+-- N ticks at once are N acts, so what holds of histories holds of them
+unfoldable pub TicksAre : Type 0
+TicksAre = (n : ℕ) (st : State) → ticks n st ≡ acts st (idle n)
 
 pub record Demand2 : Type 0 where
   -- the settings
   pub settings : SettingsKept
-  -- 0x4220 to 0x423F, by the triggers accepted, and which those are
+  -- 0x4220 to 0x423F, by the triggers accepted; which those are, and what each sets
   pub counts : CountsRight
   pub triggers : TriggerRule
-  -- what each of them sets
   pub countdowns : CountdownsSet
   -- 0x4210 and 0x4211
   pub active : ActiveRight
   -- 0x4100 to 0x41FF
   pub image : ImageRight
-  -- A04, A30 to A34 and A39
-  pub channels : ChannelsRight
+  -- A04, A30 to A34 and A39: after a reset no ramp, then what happens; when it happens is demand 3, and until a new load the older ramp
   pub rest : AtRest
+  pub channels : ChannelsRight
+  pub older : OlderGoesOn
+  -- N ticks, no event
+  pub ticks : TicksAre

@@ -16,7 +16,7 @@ use Rattle.transfer.specs.Transfer.{writable, readable}
 use Rattle.transfer.specs.Word.{effectOf, outputTo, overflowCleared, performOf}
 use Rattle.history.specs.Numbers.{first, toWrite}
 
--- the words that keep what is written to them
+-- the registers that hold a setting, fixed or not
 abbrev pub isSetting : Register → Bool
 isSetting (R.Setting s) = true
 isSetting (R.Fixed s) = true
@@ -69,7 +69,7 @@ pub data Does (x : State) (a v : ℕ) (y : State) : Type 0 where
   -- 0x4201: '1 sets every slot to FE, 0 does nothing'
   Erases : a ≡ 0x4201 → v ≡ 1 → y ≡ state (x .card) (erased (x .settings)) (x .tables) → Does x a v y
   Idles : a ≡ 0x4201 → v ≡ 0 → y ≡ x → Does x a v y
-  -- 0x4202: a trigger of level v, 'the event 0xFE if manual'
+  -- 0x4202: a trigger of level v, its event 0xFE
   Triggers : a ≡ 0x4202 → v ≤ 31 → y ≡ triggerOf x v 0xFE → Does x a v y
 
 -- of every word that is not refused

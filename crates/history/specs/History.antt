@@ -26,7 +26,7 @@ pub data Act : Type 0 where
 abbrev pub act : State → Act → State
 act st (Tick event) = tickWith st event
 act st (Write start count ws) = writeOf st start count ws .state
--- 'a read has no other effect': `readOf` answers with words alone
+-- a read 'has no other effect': `readOf` answers with words alone
 act st (Read start count ws) = st
 act st Reset = resetOf (st .settings) (st .tables)
 
@@ -34,15 +34,21 @@ abbrev pub acts : State → List Act → State
 acts st [] = st
 acts st (x ∷ xs) = acts (act st x) xs
 
+-- N ticks, no event
+abbrev pub idle : ℕ → List Act
+idle zero = []
+idle (suc n) = Tick 0xFE ∷ idle n
+
 -- the word that a read gives at an address
 abbrev pub readBack : State → ℕ → ℕ
 readBack st a = readWord (st .settings) (st .card) a
 
--- 'words have 16 bits': those of every write
+-- a rule of every word of a list
 abbrev pub Each : (ℕ → Type 0) → List ℕ → Type 0
 Each Q [] = Unit
 Each Q (v ∷ vs) = Q v × Each Q vs
 
+-- 'words have 16 bits': those of every write
 abbrev pub Words16 : List Act → Type 0
 Words16 [] = Unit
 Words16 (Tick event ∷ xs) = Words16 xs
@@ -81,7 +87,7 @@ isReset (Write start count ws) = false
 isReset (Read start count ws) = false
 isReset Reset = true
 
--- 'with no trigger accepted and no reset'
+-- 'with no trigger accepted after it and no reset'
 pub record Calm (st : State) (x : Act) : Type 0 where
   pub noTrigger : triggerBy st x ≡ Nobody
   pub noReset : isReset x ≡ false

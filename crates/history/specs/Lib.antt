@@ -4,8 +4,10 @@ pub mod Effects
 pub mod Frame
 pub mod Sound
 pub mod Triggers
-pub mod Story
-pub mod Demand3
-pub mod Counts
+pub mod Demand1
 pub mod Settings
+pub mod Counts
+pub mod Story
+pub mod Countdowns
 pub mod Demand2
+pub mod Demand3

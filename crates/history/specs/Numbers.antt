@@ -1,4 +1,4 @@
--- Demand 1 of transfers: 'Order: 1, 2, 3 once; then 4 to 8 for each word. Each number is given exactly in its case.'
+-- 'Order: 1, 2, 3 once; then 4 to 8 for each word. Each number is given exactly in its case.'
 use mathlib.Core.Path.{_≡_}
 use mathlib.Core.Bool.{Bool, false, not, cond}
 use mathlib.Core.List.{List, [], _∷_}
@@ -12,7 +12,7 @@ use Rattle.map.specs.Map.{regionOf, registerOf, acceptedAt, inRegion}
 use Rattle.card.specs.Card.{State}
 use Rattle.transfer.specs.declared.Answer.{Answer}
 use Rattle.transfer.specs.Word.{fixedAt, heldAt, runningAt}
-use Rattle.transfer.specs.Transfer.{Out, Filled, numberOf, processedOf, badCount, writable, readable, writeOf, readOf}
+use Rattle.transfer.specs.Transfer.{Out, Filled, numberOf, processedOf, badCount, writable, readable}
 use Rattle.history.specs.History.{readBack, doneFrom}
 
 -- ---- the table
@@ -84,7 +84,7 @@ pub record Exact (o : ℕ) (f : ℕ → ℕ) (count : ℕ) (w : Answer) : Type 0
 pub record WriteAnswered (st : State) (start count : ℕ) (ws : List ℕ) (o : Out) : Type 0 where
   pub exact : Exact (first (once writable (regionOf start) count ws)) (writeRefusal (regionOf start) st start ws) count (o .answer)
   pub done : o .state ≡ doneFrom st start (take (processedOf (o .answer)) ws)
-  -- 8: 'Processed 0'
+  -- with 8 nothing is processed
   pub eight : numberOf (o .answer) ≡ 8 → processedOf (o .answer) ≡ 0
 
 -- a read comes to o. 'A read fills the slice's first processed words and has no other effect; the rest of the slice stays.'
@@ -93,8 +93,3 @@ pub record ReadAnswered (st : State) (start count : ℕ) (ws : List ℕ) (o : Fi
   pub long : length (o .words) ≡ length ws
   pub words : (i : ℕ) → i < processedOf (o .answer) → getD (o .words) i 0 ≡ readBack st (start + i)
   pub rest : (i : ℕ) → processedOf (o .answer) ≤ i → getD (o .words) i 0 ≡ getD ws i 0
-
--- DEMAND 1 of every transfer in every state
-pub record Demand1 : Type 0 where
-  pub write : (st : State) (start count : ℕ) (ws : List ℕ) → WriteAnswered st start count ws (writeOf st start count ws)
-  pub read : (st : State) (start count : ℕ) (ws : List ℕ) → ReadAnswered st start count ws (readOf (st .settings) (st .card) start count ws)

@@ -18,7 +18,7 @@ isSlot b = leb 0x4000 b && ltb b 0x4100
 abbrev pub isScale : ℕ → Bool
 isScale b = ltb b 0x4000 && (leb 0x860 (b % 0x1000) && ltb (b % 0x1000) 0x880)
 
--- 'after a reset: scale factors 0x0100; trigger slots 0xFE; all else 0'
+-- after a reset: 'scale factors 0x0100', 'trigger slots .. are 0xFE', 'all else 0'
 unfoldable pub resetWord : ℕ → ℕ
 resetWord b = cond (isSlot b) 0xFE (cond (isScale b) 0x0100 0)
 
@@ -47,5 +47,5 @@ pub record SettingsKept : Type 0 where
   -- after any history the last word done there, or what an erase or a reset left
   pub kept : (st : State) → length (st .settings) ≡ 16960 → (b : ℕ) → isSetting (registerOf b) ≡ true
       → (xs : List Act) → readBack (acts st xs) b ≡ lastWord b st xs (readBack st b)
-  -- 'else its reset value'
+  -- after a reset its reset value
   pub fresh : (s l : List ℕ) → length s ≡ 16960 → (b : ℕ) → isSetting (registerOf b) ≡ true → readBack (resetOf s l) b ≡ resetWord b

@@ -1,4 +1,4 @@
--- The states that the card comes to: what a reset makes, and every call keeps.
+-- The states that the card comes to: what a reset makes, and every tick, transfer and history keeps.
 use mathlib.Core.Path.{_≡_}
 use mathlib.Core.Bool.{true}
 use mathlib.Core.List.{List}

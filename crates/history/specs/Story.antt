@@ -1,4 +1,5 @@
--- What a channel's words show after any history: its last load, its last sample, its output, and how many samples overflowed.
+-- What a channel's words show after any history: its last load, its last sample, its output, and how many samples
+-- overflowed since the last clearing.
 use mathlib.Core.Path.{_≡_}
 use mathlib.Core.Bool.{cond}
 use mathlib.Core.List.{List, [], _∷_, _++_}
@@ -34,6 +35,7 @@ pub data Happening : Type 0 where
   -- a word is done at A04, or at A39
   Output : ℕ → Happening
   Clear : Happening
+  -- a reset
   Fresh : Happening
 
 -- ---- a tick: what happens on channel c, which holds ch, under the settings s and the loaded tables l
@@ -92,14 +94,14 @@ pub record Told : Type 0 where
   pub output : ℕ
   pub overflowed : ℕ
 
--- 'loaded scale factor 0x0100; all else 0'
+-- after a reset: 'loaded scale factor 0x0100', 'all else 0'
 abbrev pub fresh : Told
 fresh = record { loaded = record { table = 0; scale = 0x0100; offset = 0 }; place = place 0 0; output = 0; overflowed = 0 }
 
 abbrev pub tell : Told → Happening → Told
 -- 'A33 and A34 become 0'
 tell x (Load ld) = record { loaded = ld; place = place 0 0; output = x .output; overflowed = x .overflowed }
--- 'A33 and A34 show the last sample's n and m'; 'outside the range the output stays and A39 grows by 1'
+-- 'A33 and A34 show the last sample's n and m'; 'outside −32768..32767 the output stays and A39 grows by 1'
 tell x (Sample p (Word v)) = record { loaded = x .loaded; place = p; output = v; overflowed = x .overflowed }
 tell x (Sample p Overflow) = record { loaded = x .loaded; place = p; output = x .output; overflowed = x .overflowed + 1 }
 tell x (Output v) = record { loaded = x .loaded; place = x .place; output = v; overflowed = x .overflowed }

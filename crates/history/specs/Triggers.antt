@@ -6,10 +6,7 @@ use lib.ListN.{length, getD}
 use Rattle.slots.specs.declared.Holder.{Holder}
 use Rattle.slots.specs.declared.Holder.the-variants.{Level, Nobody}
 use Rattle.slots.specs.Slots.{slotOf, levelOf}
-use Rattle.channel.specs.declared.Phase.{Phase}
-use Rattle.channel.specs.declared.Phase.the-variants.{Rest, Counting, Running}
-use Rattle.channel.specs.Channel.{countdown}
-use Rattle.card.specs.Card.{State, channelOf}
+use Rattle.card.specs.Card.{State}
 use Rattle.card.specs.Reset.{resetOf}
 use Rattle.history.specs.History.{Act, Tick, Write, Read, Reset, act, acts, readBack, wordsDone, triggerBy}
 use Rattle.history.specs.Sound.{Sound}
@@ -47,20 +44,6 @@ pub record TriggerRule : Type 0 where
   pub accepted : (st : State) → Sound st → (x : Act) (level : ℕ) → Accepted st x level → triggerBy st x ≡ Level level
   pub only : (st : State) (x : Act) (level : ℕ) → triggerBy st x ≡ Level level → Accepted st x level
 
--- ---- what a trigger sets on each channel
-
--- the microseconds to the start; 0 where no countdown is on its way
-abbrev pub toStart : Phase → ℕ
-toStart Rest = 0
-toStart (Counting n older) = n .0
-toStart (Running p t) = 0
-
--- 'On each channel, enabled or not, the countdown is set anew to that channel's delay for L, at least 10.'
-unfoldable pub CountdownsSet : Type 0
-CountdownsSet =
-    (st : State) (x : Act) (level : ℕ) → triggerBy st x ≡ Level level → (c : ℕ) → c < 4
-    → toStart (channelOf (act st x .card) c .phase) ≡ countdown (act st x .settings) c level
-
 -- ---- 0x4210 and 0x4211
 
 pub record Active : Type 0 where
@@ -77,7 +60,7 @@ eventBy (Write start count ws) = 0xFE
 eventBy (Read start count ws) = 0xFE
 eventBy Reset = 0xFE
 
--- 'a trigger of level L sets 0x4210 to L and 0x4211 to the event'; a reset sets 0 and 0xFE
+-- a trigger of level L 'sets 0x4210 to L and 0x4211 to the event'; a reset sets 0 and 0xFE
 abbrev pub activeAfter : Holder → Act → Active → Active
 activeAfter (Level l) x old = active l (eventBy x)
 activeAfter Nobody (Tick event) old = old

@@ -60,7 +60,7 @@ pub record Step : Type 0 where
 abbrev pub step : State → List ℕ → Step
 step st x = record { state = st; text = x }
 
--- '81, number, processed'
+-- 81, number, processed
 abbrev pub wrote : Out → Step
 wrote o = step (o .state) (headOf 0x81 (numberOf (o .answer)) (processedOf (o .answer)))
 

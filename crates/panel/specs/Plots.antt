@@ -21,7 +21,7 @@ reached words first (suc n) = reached words first n && not (isEnd n (stepAt word
 abbrev pub since : List ℕ → ℕ → ℕ → ℕ
 since words first n = lasting (stepsBefore words first n)
 
--- 'a point past its table's end shows nothing'
+-- 'a point past its table's end .. shows nothing'
 unfoldable pub plotFrom : List ℕ → ℕ → ℕ → Plot
 plotFrom words first n =
     cond (reached words first n)

@@ -1,0 +1,237 @@
+-- Every accepted trigger sets every countdown anew (`countdowns-set`), and until the load an older ramp goes on as if no trigger had come
+-- (`older-goes-on`). Assumes nothing.
+use mathlib.Core.Path.{_≡_, refl, sym, ap, _∙_}
+use mathlib.Core.Bool.{Bool, true, false, cond}
+use mathlib.Core.List.{List, [], _∷_}
+use Prim.Native.Nat.{ℕ, _+_, _*_, _-_, _≤_, _<_}
+use native.Mathlib.Omega.{arith}
+use lib.Dec.{eqb}
+use lib.ListN.{length}
+use borrow.Author.Tests.{ne-eqb, eqb-true}
+use Rattle.word.specs.declared.Micros.{Micros}
+use Rattle.slots.specs.declared.Holder.the-variants.{Level, Nobody}
+use Rattle.channel.specs.declared.Place.{Place}
+use Rattle.channel.specs.declared.Moved.{Moved}
+use Rattle.channel.specs.declared.Shown.{Shown}
+use Rattle.channel.specs.declared.Loaded.{Loaded}
+use Rattle.channel.specs.declared.Ramp.{Ramp}
+use Rattle.channel.specs.declared.Ramp.the-variants.{Still, Going}
+use Rattle.channel.specs.declared.Phase.{Phase}
+use Rattle.channel.specs.declared.Phase.the-variants.{Rest, Counting, Running}
+use Rattle.channel.specs.declared.Channel.{Channel}
+use Rattle.channel.specs.Ramp.{next, given, advance}
+use Rattle.channel.specs.Channel.{Side, side, word, firstOf, lead, load, rampOf, phaseOf, countTo, tickAt, tickOf, countdown, triggered}
+use Rattle.card.specs.declared.Card.{Card}
+use Rattle.card.specs.Card.{State, channelOf, onAll}
+use Rattle.card.specs.Trigger.{struck, triggerOf}
+use Rattle.card.specs.Tick.{advanced}
+use Rattle.course.specs.Points.{SameTable}
+use Rattle.course.specs.Course as C
+use Rattle.course.proofs.Acts.{tick-kept, tick-elsewhere, trigger-elsewhere, run-length, written-phase, written-loaded}
+use Rattle.course.proofs.Tables.{same-next, same-give}
+use Rattle.history.specs.History.{Act, Tick, Write, Read, Reset, act, triggerBy}
+use Rattle.history.specs.Sound.{Sound, RampSound, PhaseSound}
+use Rattle.history.specs.Triggers.{eventBy}
+use Rattle.history.specs.Countdowns.{toStart, justBefore, CountdownsSet, RampKept, stepped, GoesOn, OlderGoesOn}
+use Rattle.history.specs.Demand3.{sideAt}
+use Rattle.history.proofs.Turns.{Turn}
+use Rattle.history.proofs.Done.{Part, write-part}
+use Rattle.history.proofs.Demand3.{TickTurn, tick-turn, tick-same, TriggerTurn, trigger-turn, trigger-same, trigger-settings, trigger-is, before-room}
+use Rattle.history.proofs.Story.{placed-next, untimed}
+
+-- ---- the countdowns
+
+triggered-counts : (s l : List ℕ) (c : ℕ) (ch : Channel) (level : ℕ) → toStart (triggered s l c ch level .channel .phase) ≡ countdown s c level
+unfolding triggered load
+triggered-counts s l c ch level = go (eqb (countdown s c level) lead) refl
+  where
+    counting : Side
+    counting = side (record { phase = Counting (record { 0 = countdown s c level }) (rampOf (ch .phase)); level = level; loaded = ch .loaded; shown = ch .shown }) l
+
+    go : (b : Bool) → eqb (countdown s c level) lead ≡ b → toStart (cond b (load s l c ch level) counting .channel .phase) ≡ countdown s c level
+    go true e = sym (eqb-true (countdown s c level) lead e)
+    go false e = refl
+
+-- the settings that a trigger leaves
+same-countdown : (st : State) (x : Act) (level c : ℕ) → triggerBy st x ≡ Level level → countdown (act st x .settings) c level ≡ countdown (justBefore st x .settings) c level
+same-countdown st x level c e =
+    ap (λ (z : State). countdown (z .settings) c level) (trigger-is st x level e)
+    ∙ ap (λ (s : List ℕ). countdown s c level) (trigger-settings (justBefore st x) level (eventBy x))
+
+-- the channel that a trigger leaves
+struck-channel : (st : State) (x : Act) (level : ℕ) → triggerBy st x ≡ Level level → (c : ℕ) (h : c < 4)
+    → channelOf (act st x .card) c
+    ≡ triggered (justBefore st x .settings) (trigger-turn (justBefore st x) level c h .mid) c (channelOf (justBefore st x .card) c) level .channel
+struck-channel st x level e c h =
+    ap (λ (z : State). channelOf (z .card) c) (trigger-is st x level e)
+    ∙ sym (trigger-same (justBefore st x) level (eventBy x) c (trigger-turn (justBefore st x) level c h))
+
+-- EVERY ACCEPTED TRIGGER SETS EVERY COUNTDOWN ANEW
+pub countdowns-set : CountdownsSet
+unfolding CountdownsSet
+countdowns-set st x level e c h =
+    ap (λ (ch : Channel). toStart (ch .phase)) (struck-channel st x level e c h)
+    ∙ triggered-counts (justBefore st x .settings) _ c (channelOf (justBefore st x .card) c) level
+    ∙ sym (same-countdown st x level c e)
+
+-- ---- the copy
+
+-- a turn that leaves the tables leaves channel c's words, whatever the other channels do in theirs
+module _ (f : ℕ → List ℕ → Channel → Side)
+    (beside : (b c : ℕ) (l : List ℕ) (ch : Channel) → (b ≡ c → ⊥) → C.elsewhere c l (f b l ch .tables) ≡ f b l ch .tables) (k : Card) (l : List ℕ) (c : ℕ) where
+  turn-table : (y : Turn f beside k l c) → f c (y .mid) (channelOf k c) .tables ≡ y .mid → 128 * c + 128 ≤ length l
+      → SameTable (onAll f k l .tables) (firstOf c) l (firstOf c)
+  turn-table y e room i h =
+      sym (ap (λ (x : Side). word (x .tables) (firstOf c + i)) (y .goes))
+      ∙ untimed c (f c (y .mid) (channelOf k c)) (y .after) (y .none-after) (omega (arith, ap length e, long)) i h
+      ∙ ap (λ (t : List ℕ). word t (firstOf c + i)) e
+      ∙ sym (ap (λ (x : Side). word (x .tables) (firstOf c + i)) (y .comes))
+      ∙ untimed c (side (channelOf k c) l) (y .before) (y .none) room i h
+    where
+      long : length (y .mid) ≡ length l
+      long = sym (ap (λ (x : Side). length (x .tables)) (y .comes)) ∙ run-length c (side (channelOf k c) l) (y .before)
+
+-- ---- a trigger
+
+record Left (s l : List ℕ) (c : ℕ) (ch : Channel) (x : Side) : Type 0 where
+  ramp : rampOf (x .channel .phase) ≡ rampOf (ch .phase)
+  loaded : x .channel .loaded ≡ ch .loaded
+  shown : x .channel .shown ≡ ch .shown
+  tables : x .tables ≡ l
+
+later-leaves : (s l : List ℕ) (c : ℕ) (ch : Channel) (level : ℕ) → lead < countdown s c level → Left s l c ch (triggered s l c ch level)
+unfolding triggered
+later-leaves s l c ch level h =
+    rw (ne-eqb (countdown s c level) lead (λ d. absurd (omega arith))) (record { ramp = refl; loaded = refl; shown = refl; tables = refl })
+
+module _ (st : State) (x : Act) (level : ℕ) (e : triggerBy st x ≡ Level level) (c : ℕ) (h : c < 4) (far : lead < countdown (act st x .settings) c level) where
+  abbrev k : State
+  k = justBefore st x
+
+  abbrev y : TriggerTurn k level c
+  y = trigger-turn k level c h
+
+  leaves : Left (k .settings) (y .mid) c (channelOf (k .card) c) (triggered (k .settings) (y .mid) c (channelOf (k .card) c) level)
+  leaves = later-leaves (k .settings) (y .mid) c (channelOf (k .card) c) level (rw (same-countdown st x level c e) at far)
+
+  trigger-table : 512 ≤ length (st .tables) → SameTable (act st x .tables) (firstOf c) (k .tables) (firstOf c)
+  unfolding triggerOf
+  trigger-table room i g =
+      ap (λ (z : State). word (z .tables) (firstOf c + i)) (trigger-is st x level e)
+      ∙ turn-table (λ b l ch. triggered (k .settings) l b ch level) (λ b d l ch o. trigger-elsewhere (k .settings) l b d ch o level) (k .card) (k .tables) c y
+      (leaves .tables) (omega (arith, before-room st x)) i g
+
+  trigger-keeps : 512 ≤ length (st .tables) → RampKept c k (act st x)
+  trigger-keeps room =
+      record {
+        ramp = ap (λ (ch : Channel). rampOf (ch .phase)) (struck-channel st x level e c h) ∙ leaves .ramp;
+        loaded = ap (λ (ch : Channel). ch .loaded) (struck-channel st x level e c h) ∙ leaves .loaded;
+        table = trigger-table room;
+      }
+
+  trigger-shows : channelOf (act st x .card) c .shown ≡ channelOf (k .card) c .shown
+  trigger-shows = ap (λ (ch : Channel). ch .shown) (struck-channel st x level e c h) ∙ leaves .shown
+
+-- ---- a tick
+
+module _ (l m : List ℕ) (c : ℕ) (same : SameTable m (firstOf c) l (firstOf c)) (ld : Loaded) (s : Shown) where
+  same-advance : (r : Ramp) → RampSound r → advance m (firstOf c) ld r s ≡ advance l (firstOf c) ld r s
+  unfolding advance given
+  same-advance Still h = refl
+  same-advance (Going p t) h =
+      rw (
+        same-next m (firstOf c) l (firstOf c) same p (h .inner),
+        same-give m (firstOf c) l (firstOf c) same ld (next l (firstOf c) p) s (placed-next l (firstOf c) p (h .inner)),
+      )
+
+ramp-phase : (r : Ramp) → rampOf (phaseOf r) ≡ r
+ramp-phase Still = refl
+ramp-phase (Going p t) = refl
+
+-- a channel's tick that is no load and no start
+record Moves (l : List ℕ) (c : ℕ) (ch : Channel) (x : Side) : Type 0 where
+  ramp : rampOf (x .channel .phase) ≡ advance l (firstOf c) (ch .loaded) (rampOf (ch .phase)) (ch .shown) .ramp
+  shown : x .channel .shown ≡ advance l (firstOf c) (ch .loaded) (rampOf (ch .phase)) (ch .shown) .shown
+  loaded : x .channel .loaded ≡ ch .loaded
+  tables : x .tables ≡ l
+
+counting-moves : (s l : List ℕ) (c : ℕ) (ch : Channel) (p : Phase) → ch .phase ≡ p → 11 < toStart p → Moves l c ch (tickAt p s l c ch)
+unfolding tickAt countTo
+counting-moves s l c ch (Counting n older) e h =
+    rw (ne-eqb (n .0 - 1) 0 (λ d. absurd (omega arith)), ne-eqb (n .0 - 1) lead (λ d. absurd (omega arith)))
+    (record { ramp = rw e; shown = rw e; loaded = refl; tables = refl })
+counting-moves s l c ch Rest e h = absurd (omega arith)
+counting-moves s l c ch (Running p t) e h = absurd (omega arith)
+
+running-moves : (s l : List ℕ) (c : ℕ) (ch : Channel) (p : Place) (t : Micros) (q : Phase) → ch .phase ≡ q → q ≡ Running p t → Moves l c ch (tickAt q s l c ch)
+unfolding tickAt
+running-moves s l c ch p t (Running a b) e f = record { ramp = rw e (ramp-phase _); shown = rw e; loaded = refl; tables = refl }
+running-moves s l c ch p t Rest e f = let z : _≡_ {A = ℕ} 0 1 = cc in absurd (omega arith)
+running-moves s l c ch p t (Counting n older) e f = let z : _≡_ {A = ℕ} 0 1 = cc in absurd (omega arith)
+
+ramp-sound : (p : Phase) → PhaseSound p → RampSound (rampOf p)
+ramp-sound Rest k = tt
+ramp-sound (Counting n older) k = k .ramp
+ramp-sound (Running p t) k = k
+
+module _ (st : State) (h : Sound st) (c : ℕ) (inside : c < 4) where
+  abbrev ch : Channel
+  ch = channelOf (st .card) c
+
+  abbrev turn : TickTurn st c
+  turn = tick-turn st c inside
+
+  tick-table : tickOf (st .settings) (turn .mid) c ch .tables ≡ turn .mid → SameTable (advanced st .tables) (firstOf c) (st .tables) (firstOf c)
+  unfolding advanced
+  tick-table e =
+      turn-table (λ b l ch. tickOf (st .settings) l b ch) (λ b d l ch o. tick-elsewhere (st .settings) l b d ch o) (st .card) (st .tables) c turn e
+      (omega (arith, h .tables .many))
+
+  goes : Moves (turn .mid) c ch (tickOf (st .settings) (turn .mid) c ch) → GoesOn c st (advanced st)
+  goes m =
+      record {
+        ramp = ap (λ (x : Channel). rampOf (x .phase)) (sym (tick-same st c turn)) ∙ m .ramp ∙ ap (λ (x : Moved). x .ramp) e;
+        shown = ap (λ (x : Channel). x .shown) (sym (tick-same st c turn)) ∙ m .shown ∙ ap (λ (x : Moved). x .shown) e;
+        loaded = ap (λ (x : Channel). x .loaded) (sym (tick-same st c turn)) ∙ m .loaded;
+        table = tick-table (m .tables);
+      }
+    where
+      same : SameTable (turn .mid) (firstOf c) (st .tables) (firstOf c)
+      same = rw (turn .comes) at (untimed c (side ch (st .tables)) (turn .before) (turn .none) (omega (arith, h .tables .many)))
+
+      e : advance (turn .mid) (firstOf c) (ch .loaded) (rampOf (ch .phase)) (ch .shown) ≡ stepped c st
+      e = same-advance (st .tables) (turn .mid) c same (ch .loaded) (ch .shown) (rampOf (ch .phase)) (ramp-sound (ch .phase) (h .card .channels c .phase))
+
+-- ---- a write
+
+untimed-ramp : (c : ℕ) (x : Side) (ys : List C.Act) → C.ticks ys ≡ 0
+    → (C.run c x ys .channel .phase ≡ x .channel .phase) × (C.run c x ys .channel .loaded ≡ x .channel .loaded)
+untimed-ramp c x [] e = (refl, refl)
+untimed-ramp c x (C.Tick s ∷ ys) e = absurd (omega arith)
+untimed-ramp c x (C.Elsewhere l ∷ ys) e = untimed-ramp c (C.act c x (C.Elsewhere l)) ys e
+untimed-ramp c x (C.Output v ∷ ys) e =
+    let r = untimed-ramp c (C.act c x (C.Output v)) ys e in
+    (r .0 ∙ written-phase v (x .channel), r .1 ∙ written-loaded v (x .channel))
+untimed-ramp c x (C.Clear ∷ ys) e = untimed-ramp c (C.act c x C.Clear) ys e
+
+write-keeps-ramp : (st : State) → Sound st → (start count : ℕ) (ws : List ℕ) → triggerBy st (Write start count ws) ≡ Nobody → (c : ℕ) → c < 4
+    → RampKept c st (act st (Write start count ws))
+write-keeps-ramp st h start count ws e c i =
+    let p = write-part c i st start count ws (h .card .four) e in
+    let r = untimed-ramp c (sideAt st c) (p .acts) (p .none) in
+    record {
+      ramp = ap (λ (x : Side). rampOf (x .channel .phase)) (sym (p .runs)) ∙ ap rampOf (r .0);
+      loaded = ap (λ (x : Side). x .channel .loaded) (sym (p .runs)) ∙ r .1;
+      table = λ n g. ap (λ (x : Side). word (x .tables) (firstOf c + n)) (sym (p .runs)) ∙ untimed c (sideAt st c) (p .acts) (p .none) (omega (arith, h .tables .many)) n g;
+    }
+
+-- UNTIL THE LOAD AN OLDER RAMP GOES ON
+pub older-goes-on : OlderGoesOn
+older-goes-on =
+    record {
+      trigger = λ st h x level e c i f. trigger-keeps st x level e c i f (omega (arith, h .tables .many));
+      shown = λ st x level e c i f. trigger-shows st x level e c i f;
+      counting = λ st h c i f. goes st h c i (counting-moves (st .settings) _ c (channelOf (st .card) c) (channelOf (st .card) c .phase) refl f);
+      running = λ st h c i p t f. goes st h c i (running-moves (st .settings) _ c (channelOf (st .card) c) p t (channelOf (st .card) c .phase) refl f);
+      write = write-keeps-ramp;
+    }

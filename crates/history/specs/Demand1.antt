@@ -1,0 +1,30 @@
+-- Demand 1 of transfers: 'A bad one gets its number from document 01, checked in the order given there. Words before the stopping word are
+-- done with all their effects, and nothing else changes.'
+use mathlib.Core.Path.{_≡_}
+use mathlib.Core.Bool.{true}
+use mathlib.Core.List.{List}
+use Prim.Native.Nat.{ℕ}
+use Rattle.map.specs.declared.Register.the-variants as R
+use Rattle.card.specs.Card.{State}
+use Rattle.transfer.specs.Word.{heldAt}
+use Rattle.transfer.specs.Transfer.{writeOf, readOf}
+use Rattle.history.specs.Numbers.{WriteAnswered, ReadAnswered}
+use Rattle.history.specs.Effects.{AllEffects}
+use Rattle.history.specs.Triggers.{Holds}
+
+-- 7: 'unless a slot of a different level holds it'; 0xFE is null
+pub record HeldElsewhere (s : List ℕ) (level event : ℕ) : Type 0 where
+  pub real : event ≡ 0xFE → ⊥
+  pub other : ℕ
+  pub different : other ≡ level → ⊥
+  pub held : Holds s other event
+
+pub record Demand1 : Type 0 where
+  -- every transfer in every state: its number and words processed, and what it comes to
+  pub write : (st : State) (start count : ℕ) (ws : List ℕ) → WriteAnswered st start count ws (writeOf st start count ws)
+  pub read : (st : State) (start count : ℕ) (ws : List ℕ) → ReadAnswered st start count ws (readOf (st .settings) (st .card) start count ws)
+  -- what a word that is done does
+  pub effects : AllEffects
+  -- the case of 7, in the paper's words
+  pub seven : (s : List ℕ) (level event : ℕ) → heldAt s (R.Slot level) event ≡ true → HeldElsewhere s level event
+  pub seven-only : (s : List ℕ) (level event : ℕ) → HeldElsewhere s level event → heldAt s (R.Slot level) event ≡ true
