@@ -23,19 +23,19 @@ use Rattle.channel.specs.Ramp.{next, given, advance}
 use Rattle.channel.specs.Channel.{Side, side, word, firstOf, lead, load, rampOf, phaseOf, countTo, tickAt, tickOf, countdown, triggered}
 use Rattle.card.specs.declared.Card.{Card}
 use Rattle.card.specs.Card.{State, channelOf, onAll}
-use Rattle.card.specs.Trigger.{struck, triggerOf}
+use Rattle.card.specs.Trigger.{triggerOf}
 use Rattle.card.specs.Tick.{advanced}
 use Rattle.course.specs.Points.{SameTable}
 use Rattle.course.specs.Course as C
-use Rattle.course.proofs.Acts.{tick-kept, tick-elsewhere, trigger-elsewhere, run-length, written-phase, written-loaded}
+use Rattle.course.proofs.Acts.{tick-elsewhere, trigger-elsewhere, run-length, written-phase, written-loaded}
 use Rattle.course.proofs.Tables.{same-next, same-give}
-use Rattle.history.specs.History.{Act, Tick, Write, Read, Reset, act, triggerBy}
+use Rattle.history.specs.History.{Act, Tick, Write, act, triggerBy}
 use Rattle.history.specs.Sound.{Sound, RampSound, PhaseSound}
 use Rattle.history.specs.Triggers.{eventBy}
 use Rattle.history.specs.Countdowns.{toStart, justBefore, CountdownsSet, RampKept, stepped, GoesOn, OlderGoesOn}
 use Rattle.history.specs.Demand3.{sideAt}
 use Rattle.history.proofs.Turns.{Turn}
-use Rattle.history.proofs.Done.{Part, write-part}
+use Rattle.history.proofs.Done.{write-part}
 use Rattle.history.proofs.Demand3.{TickTurn, tick-turn, tick-same, TriggerTurn, trigger-turn, trigger-same, trigger-settings, trigger-is, before-room}
 use Rattle.history.proofs.Story.{placed-next, untimed}
 

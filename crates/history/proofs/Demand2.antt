@@ -1,11 +1,8 @@
 -- Demand 2, of its parts. Assumes nothing.
-use mathlib.Core.Path.{_≡_, refl, ap, _∙_}
-use Prim.Native.Nat.{ℕ, zero, suc}
-use Rattle.slots.specs.declared.Holder.the-variants.{Nobody}
-use Rattle.card.specs.Card.{State}
+use mathlib.Core.Path.{refl}
+use Prim.Native.Nat.{zero, suc}
 use Rattle.card.specs.Trigger.{acceptedOf}
 use Rattle.card.specs.Tick.{advanced, ticks}
-use Rattle.history.specs.History.{acts, idle}
 use Rattle.history.specs.Demand2.{TicksAre, Demand2}
 use Rattle.history.proofs.Settings.{settings-kept}
 use Rattle.history.proofs.Counts.{counts-right}

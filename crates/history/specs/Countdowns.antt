@@ -9,7 +9,6 @@ use Rattle.channel.specs.declared.Moved.{Moved}
 use Rattle.channel.specs.declared.Place.{Place}
 use Rattle.channel.specs.declared.Phase.{Phase}
 use Rattle.channel.specs.declared.Phase.the-variants.{Rest, Counting, Running}
-use Rattle.channel.specs.declared.Channel.{Channel}
 use Rattle.channel.specs.Ramp.{advance}
 use Rattle.channel.specs.Channel.{firstOf, lead, rampOf, countdown}
 use Rattle.card.specs.Card.{State, channelOf}

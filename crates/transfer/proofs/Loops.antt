@@ -21,7 +21,7 @@ use Rattle.transfer.specs.declared.Verdict.{Verdict}
 use Rattle.transfer.specs.declared.Verdict.the-variants as D
 use Rattle.transfer.specs.declared.Answer.the-variants.{Done, BadCount, NoRegion, NoAccess, Beyond, Refused}
 use Rattle.transfer.specs.Word.{judgeOf, effectOf, performOf, One, one, writeWord, readWord}
-use Rattle.transfer.specs.Transfer.{Out, out, goOn, writeWords, writeOf, Filled, filled, readWords, readOf, badCount, writable, readable}
+use Rattle.transfer.specs.Transfer.{out, goOn, writeWords, writeOf, filled, readWords, readOf, badCount, writable, readable}
 
 -- ---- one word
 

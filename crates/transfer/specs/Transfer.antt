@@ -18,7 +18,7 @@ use Rattle.transfer.specs.declared.Verdict.the-variants as D
 use Rattle.transfer.specs.declared.Answer.{Answer}
 use Rattle.transfer.specs.declared.Answer.the-variants.{Done, BadCount, NoRegion, NoAccess, Beyond, Refused}
 use Rattle.transfer.specs.declared.Written.{Written}
-use Rattle.transfer.specs.Word.{One, writeWord, readWord}
+use Rattle.transfer.specs.Word.{writeWord, readWord}
 
 -- ---- the paper's number of each answer, and the words processed
 

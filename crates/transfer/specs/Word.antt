@@ -14,12 +14,10 @@ use Rattle.slots.specs.declared.Holder.{Holder}
 use Rattle.slots.specs.declared.Holder.the-variants.{Level, Nobody}
 use Rattle.slots.specs.Slots.{otherOf, imageOf, erased}
 use Rattle.channel.specs.declared.Channel.{Channel}
-use Rattle.channel.specs.declared.Shown.{Shown}
 use Rattle.channel.specs.Channel.{word, with, runsOf}
 use Rattle.card.specs.declared.Card.{Card}
 use Rattle.card.specs.Card.{State, state, channelOf, withChannel, countOf, withCount}
 use Rattle.card.specs.Trigger.{triggerOf}
-use Rattle.transfer.specs.declared.Why.{Why}
 use Rattle.transfer.specs.declared.Why.the-variants.{Fixed, Value, Held, Running}
 use Rattle.transfer.specs.declared.Verdict.{Verdict}
 use Rattle.transfer.specs.declared.Verdict.the-variants.{Accepted, Refused}

@@ -1,10 +1,8 @@
 -- `transfer::perform` meets its contract: each arm is the effect's own case. Assumes nothing.
 use borrow.Author.Needs.{needs}
 use mathlib.Core.Path.{_≡_, sym, ap, _∙_}
-use mathlib.Core.List.{List}
 use Prim.Native.Nat.{ℕ}
 use Rattle.channel.specs.declared.Channel.{Channel}
-use Rattle.card.specs.declared.Card.{Card}
 use Rattle.card.specs.Card.{State, state, withChannel}
 use Rattle.card.specs.Trigger.{triggerOf}
 use Rattle.transfer.specs.declared.Effect.{Effect}

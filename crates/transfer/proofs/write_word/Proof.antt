@@ -1,6 +1,6 @@
 -- `transfer::write_word` meets its contract: the word is done, or nothing is. Assumes nothing.
 use borrow.Author.Needs.{needs}
-use mathlib.Core.Path.{_≡_, sym, ap, _∙_}
+use mathlib.Core.Path.{ap, _∙_}
 use Rattle.card.specs.Card.{State, state}
 use Rattle.transfer.specs.declared.Effect.{Effect}
 use Rattle.transfer.specs.Word.{One, performOf}
