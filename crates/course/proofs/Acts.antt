@@ -16,7 +16,7 @@ use Rattle.channel.specs.declared.Shown.{Shown}
 use Rattle.channel.specs.declared.Channel.{Channel}
 use Rattle.channel.specs.Channel.{Side, side, word, with, firstOf, lead, runsOf, copied, load, start, countTo, tickAt, tickOf, triggered}
 use Rattle.course.specs.Points.{SameTable}
-use Rattle.course.specs.Course.{Act, Tick, Elsewhere, Output, Clear, elsewhere, written, act, run, ticks, before, heldOn}
+use Rattle.course.specs.Course.{Act, Tick, Elsewhere, Output, Clear, elsewhere, written, act, run, ticksIn, until, heldOn}
 use Rattle.course.proofs.Copies.{choose, copied-length, copied-in, copied-same, tick-length, tick-out, trigger-length, trigger-out}
 
 -- ---- a tick
@@ -148,7 +148,7 @@ module _ (v : ℕ) (ch : Channel) where
 -- ---- the acts before a tick, and the settings held on it
 
 -- the acts before a tick that does not come are all of them
-pub before-all : (n : ℕ) (xs : List Act) → ticks xs ≤ n → before (suc n) xs ≡ xs
+pub before-all : (n : ℕ) (xs : List Act) → ticksIn xs ≤ n → until (suc n) xs ≡ xs
 before-all n [] h = refl
 before-all zero (Tick s ∷ xs) h = absurd (omega arith)
 before-all (suc n) (Tick s ∷ xs) h = ap (λ (ys : List Act). Tick s ∷ ys) (before-all n xs (omega arith))
@@ -157,7 +157,7 @@ before-all n (Output v ∷ xs) h = ap (λ (ys : List Act). Output v ∷ ys) (bef
 before-all n (Clear ∷ xs) h = ap (λ (ys : List Act). Clear ∷ ys) (before-all n xs h)
 
 -- and the settings are those of the tick that comes after them
-pub held-next : (s z : List ℕ) (n : ℕ) (xs : List Act) → ticks xs ≤ n → heldOn s z (suc n) xs ≡ z
+pub held-next : (s z : List ℕ) (n : ℕ) (xs : List Act) → ticksIn xs ≤ n → heldOn s z (suc n) xs ≡ z
 held-next s z n [] h = refl
 held-next s z zero (Tick u ∷ xs) h = absurd (omega arith)
 held-next s z (suc n) (Tick u ∷ xs) h = held-next s z n xs (omega arith)

@@ -6,13 +6,13 @@ use Prim.Native.Nat.{ℕ, zero, suc, _+_, _≤_}
 use native.Mathlib.Omega.{arith}
 use native.Mathlib.Nat.{zero-add, suc-add}
 use Rattle.channel.specs.Channel.{Side}
-use Rattle.course.specs.Course.{Act, Tick, Elsewhere, Output, Clear, act, run, ticks, before, heldOn}
+use Rattle.course.specs.Course.{Act, Tick, Elsewhere, Output, Clear, act, run, ticksIn, until, heldOn}
 
 pub run-append : (c : ℕ) (x : Side) (xs ys : List Act) → run c x (xs ++ ys) ≡ run c (run c x xs) ys
 run-append c x [] ys = refl
 run-append c x (y ∷ xs) ys = run-append c (act c x y) xs ys
 
-pub ticks-append : (xs ys : List Act) → ticks (xs ++ ys) ≡ ticks xs + ticks ys
+pub ticks-append : (xs ys : List Act) → ticksIn (xs ++ ys) ≡ ticksIn xs + ticksIn ys
 ticks-append [] ys = omega arith
 ticks-append (Tick s ∷ xs) ys = ap suc (ticks-append xs ys) ∙ omega arith
 ticks-append (Elsewhere l ∷ xs) ys = ticks-append xs ys
@@ -21,7 +21,7 @@ ticks-append (Clear ∷ xs) ys = ticks-append xs ys
 
 -- ---- a tick of the first list
 
-pub held-first : (s z : List ℕ) (n : ℕ) (xs ys : List Act) → suc n ≤ ticks xs → heldOn s z (suc n) (xs ++ ys) ≡ heldOn s z (suc n) xs
+pub held-first : (s z : List ℕ) (n : ℕ) (xs ys : List Act) → suc n ≤ ticksIn xs → heldOn s z (suc n) (xs ++ ys) ≡ heldOn s z (suc n) xs
 held-first s z n [] ys h = absurd (omega arith)
 held-first s z zero (Tick u ∷ xs) ys h = refl
 held-first s z (suc n) (Tick u ∷ xs) ys h = held-first s z n xs ys (omega arith)
@@ -29,7 +29,7 @@ held-first s z n (Elsewhere l ∷ xs) ys h = held-first s z n xs ys h
 held-first s z n (Output v ∷ xs) ys h = held-first s z n xs ys h
 held-first s z n (Clear ∷ xs) ys h = held-first s z n xs ys h
 
-pub before-first : (n : ℕ) (xs ys : List Act) → suc n ≤ ticks xs → before (suc n) (xs ++ ys) ≡ before (suc n) xs
+pub before-first : (n : ℕ) (xs ys : List Act) → suc n ≤ ticksIn xs → until (suc n) (xs ++ ys) ≡ until (suc n) xs
 before-first n [] ys h = absurd (omega arith)
 before-first zero (Tick u ∷ xs) ys h = refl
 before-first (suc n) (Tick u ∷ xs) ys h = ap (λ (zs : List Act). Tick u ∷ zs) (before-first n xs ys (omega arith))
@@ -39,14 +39,14 @@ before-first n (Clear ∷ xs) ys h = ap (λ (zs : List Act). Clear ∷ zs) (befo
 
 -- ---- a tick of the second
 
-pub held-later : (s z : List ℕ) (n : ℕ) (xs ys : List Act) → heldOn s z (suc (ticks xs + n)) (xs ++ ys) ≡ heldOn s z (suc n) ys
+pub held-later : (s z : List ℕ) (n : ℕ) (xs ys : List Act) → heldOn s z (suc (ticksIn xs + n)) (xs ++ ys) ≡ heldOn s z (suc n) ys
 held-later s z n [] ys = rw zero-add
 held-later s z n (Tick u ∷ xs) ys = rw suc-add (held-later s z n xs ys)
 held-later s z n (Elsewhere l ∷ xs) ys = held-later s z n xs ys
 held-later s z n (Output v ∷ xs) ys = held-later s z n xs ys
 held-later s z n (Clear ∷ xs) ys = held-later s z n xs ys
 
-pub before-later : (n : ℕ) (xs ys : List Act) → before (suc (ticks xs + n)) (xs ++ ys) ≡ xs ++ before (suc n) ys
+pub before-later : (n : ℕ) (xs ys : List Act) → until (suc (ticksIn xs + n)) (xs ++ ys) ≡ xs ++ until (suc n) ys
 before-later n [] ys = rw zero-add
 before-later n (Tick u ∷ xs) ys = rw suc-add (ap (λ (zs : List Act). Tick u ∷ zs) (before-later n xs ys))
 before-later n (Elsewhere l ∷ xs) ys = ap (λ (zs : List Act). Elsewhere l ∷ zs) (before-later n xs ys)

@@ -23,7 +23,7 @@ use Rattle.channel.specs.Ramp.{enter, next, give, given, advance}
 use Rattle.channel.specs.Channel.{Side, side, word, firstOf, with, phaseOf, loadedFor, blank, load, start, countTo, tickAt, tickOf}
 use Rattle.channel.proofs.Counts as counts
 use Rattle.course.specs.Points.{SameTable}
-use Rattle.course.specs.Course.{Act, Tick, Elsewhere, Output, Clear, act, run, ticks, heldOn}
+use Rattle.course.specs.Course.{Act, Tick, Elsewhere, Output, Clear, act, run, ticksIn, heldOn}
 use Rattle.course.specs.Follows.{tableFor, totalFor, placeFor, sampleFor}
 use Rattle.course.proofs.Copies.{copied-in}
 use Rattle.course.proofs.Acts.{tick-rest, elsewhere-in, written-phase, written-level, written-loaded, act-length}
@@ -280,7 +280,7 @@ module _ (c v : ℕ) (w : List ℕ) (a d : ℕ) where
     pub enabled : (n : ℕ) → t + suc n ≡ d → word (heldOn s z (suc n) xs) (enableAt c) ≡ a
 
   pub course-run : (t : ℕ) (s z : List ℕ) (x : Side) (xs : List Act) → 128 * c + 128 ≤ length (x .tables) → Ahead t s z xs → Course t x
-      → Course (t + ticks xs) (run c x xs)
+      → Course (t + ticksIn xs) (run c x xs)
   course-run t s z x [] m h y = rw add-zero y
   course-run t s z x (Tick u ∷ xs) m h y =
       rw (add-suc, ← suc-add, ← add-one)

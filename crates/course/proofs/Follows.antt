@@ -15,8 +15,8 @@ use Rattle.channel.specs.declared.Ramp.the-variants.{Still}
 use Rattle.channel.specs.declared.Phase.the-variants.{Rest, Counting, Running}
 use Rattle.channel.specs.Channel.{Side, side, word, rampOf, load, countdown, triggered}
 use Rattle.channel.proofs.Counts as counts
-use Rattle.course.specs.Course.{Act, Tick, act, run, ticks, heldOn}
-use Rattle.course.specs.Follows.{totalFor, placeFor, Follows, Demand3}
+use Rattle.course.specs.Course.{Act, Tick, act, run, ticksIn, heldOn}
+use Rattle.course.specs.Follows.{totalFor, placeFor, Follows, TriggerFollowed}
 use Rattle.course.proofs.Copies.{trigger-length}
 use Rattle.course.proofs.Acts.{run-length, held-next}
 use Rattle.course.proofs.Course.{Held, Course, waits, starts, runs, rests, off, Ahead, Ticked, loads, load-phase, ticked, course-run}
@@ -60,25 +60,25 @@ module _ (s l : List ℕ) (c : ℕ) (ch : Channel) (v : ℕ) (room : 128 * c + 1
         enabled = λ n q. let e : d ≡ suc n = omega arith in rw e;
       }
 
-  pub course-now : Course c v w a d (ticks xs) now
+  pub course-now : Course c v w a d (ticksIn xs) now
   course-now = rw zero-add at (course-run c v w a d 0 s z (triggered s l c ch v) xs (rw (trigger-length s l c ch v) room) ahead (course-trigger a))
 
-  pub tick-now : Ticked c v w a d (ticks xs) z now
+  pub tick-now : Ticked c v w a d (ticksIn xs) z now
   tick-now =
-      ticked c v w a d (ticks xs) z now
+      ticked c v w a d (ticksIn xs) z now
       (rw (run-length c (triggered s l c ch v) xs, trigger-length s l c ch v) room)
-      (λ q. let e : d - 10 ≡ suc (ticks xs) = omega arith in rw (e, held-next s z (ticks xs) xs (omega arith)))
-      (λ q. let e : d ≡ suc (ticks xs) = omega arith in rw (e, held-next s z (ticks xs) xs (omega arith)))
+      (λ q. let e : d - 10 ≡ suc (ticksIn xs) = omega arith in rw (e, held-next s z (ticksIn xs) xs (omega arith)))
+      (λ q. let e : d ≡ suc (ticksIn xs) = omega arith in rw (e, held-next s z (ticksIn xs) xs (omega arith)))
       course-now
 
-  held-of : d ≤ ticks xs + 10 → (x : Side) → Course c v w a d (ticks xs) x → Held c v w a d x
+  held-of : d ≤ ticksIn xs + 10 → (x : Side) → Course c v w a d (ticksIn xs) x → Held c v w a d x
   held-of h x (waits n o q p e f) = absurd (omega arith)
   held-of h x (starts n q p b e f) = e
   held-of h x (runs k r y q p b g e f) = e
   held-of h x (rests y g e f) = e
   held-of h x (off y g e f) = e
 
-  count-of : d ≤ ticks xs + 10 → (n : ℕ) → 1 ≤ n → ticks xs + n ≡ d → (x : Side) → Course c v w a d (ticks xs) x
+  count-of : d ≤ ticksIn xs + 10 → (n : ℕ) → 1 ≤ n → ticksIn xs + n ≡ d → (x : Side) → Course c v w a d (ticksIn xs) x
       → x .channel .phase ≡ Counting (record { 0 = n }) Still
   count-of h n g u x (waits m o q p e f) = absurd (omega arith)
   count-of h n g u x (starts m q p b e f) = let nm : n ≡ m = omega arith in rw nm f
@@ -86,8 +86,8 @@ module _ (s l : List ℕ) (c : ℕ) (ch : Channel) (v : ℕ) (room : 128 * c + 1
   count-of h n g u x (rests y i e f) = absurd (omega arith)
   count-of h n g u x (off y i e f) = absurd (omega arith)
 
-  run-of : a ≡ 1 → (k j : ℕ) → k < totalFor w c v → j < 10 → ticks xs ≡ d + 10 * k + j
-      → (x : Side) → Course c v w a d (ticks xs) x → x .channel .phase ≡ Running (placeFor w c v k) (record { 0 = 10 - j })
+  run-of : a ≡ 1 → (k j : ℕ) → k < totalFor w c v → j < 10 → ticksIn xs ≡ d + 10 * k + j
+      → (x : Side) → Course c v w a d (ticksIn xs) x → x .channel .phase ≡ Running (placeFor w c v k) (record { 0 = 10 - j })
   run-of y k j h g u x (waits n o q p e f) = absurd (omega arith)
   run-of y k j h g u x (starts n q p b e f) = absurd (omega arith)
   run-of y k j h g u x (runs i r t q p b m e f) =
@@ -97,21 +97,21 @@ module _ (s l : List ℕ) (c : ℕ) (ch : Channel) (v : ℕ) (room : 128 * c + 1
   run-of y k j h g u x (rests t m e f) = absurd (omega arith)
   run-of y k j h g u x (off t m e f) = absurd (t y)
 
-  rest-of : a ≡ 1 → d + 10 * totalFor w c v ≤ ticks xs → (x : Side) → Course c v w a d (ticks xs) x → x .channel .phase ≡ Rest
+  rest-of : a ≡ 1 → d + 10 * totalFor w c v ≤ ticksIn xs → (x : Side) → Course c v w a d (ticksIn xs) x → x .channel .phase ≡ Rest
   rest-of y h x (waits n o q p e f) = absurd (omega arith)
   rest-of y h x (starts n q p b e f) = absurd (omega arith)
   rest-of y h x (runs k r t q p b g e f) = absurd (omega arith)
   rest-of y h x (rests t g e f) = f
   rest-of y h x (off t g e f) = f
 
-  off-of : (a ≡ 1 → ⊥) → d ≤ ticks xs → (x : Side) → Course c v w a d (ticks xs) x → x .channel .phase ≡ Rest
+  off-of : (a ≡ 1 → ⊥) → d ≤ ticksIn xs → (x : Side) → Course c v w a d (ticksIn xs) x → x .channel .phase ≡ Rest
   off-of y h x (waits n o q p e f) = absurd (omega arith)
   off-of y h x (starts n q p b e f) = absurd (omega arith)
   off-of y h x (runs k r t q p b g e f) = absurd (y t)
   off-of y h x (rests t g e f) = f
   off-of y h x (off t g e f) = f
 
-  follows : Follows c v d w a (ticks xs) now (act c now (Tick z))
+  follows : Follows c v d w a (ticksIn xs) now (act c now (Tick z))
   follows =
       record {
         loaded = λ h. held-of h now course-now .loaded;
@@ -126,6 +126,6 @@ module _ (s l : List ℕ) (c : ℕ) (ch : Channel) (v : ℕ) (room : 128 * c + 1
       }
 
 -- Demand 3 of one channel
-pub demand3 : Demand3
-unfolding Demand3
-demand3 s l c ch level room xs z = follows s l c ch level room xs z
+pub trigger-followed : TriggerFollowed
+unfolding TriggerFollowed
+trigger-followed s l c ch level room xs z = follows s l c ch level room xs z

@@ -17,7 +17,7 @@ use Rattle.channel.specs.declared.Phase.the-variants.{Running}
 use Rattle.channel.specs.declared.Channel.{Channel}
 use Rattle.channel.specs.Ramp.{put}
 use Rattle.channel.specs.Channel.{Side, word, rampOf, going, countdown, triggered}
-use Rattle.course.specs.Course.{Act, Tick, Elsewhere, Output, Clear, act, run, ticks, before, heldOn}
+use Rattle.course.specs.Course.{Act, Tick, Elsewhere, Output, Clear, act, run, ticksIn, until, heldOn}
 use Rattle.course.specs.Follows.{totalFor, sampleFor}
 use Rattle.course.specs.Outputs.{hold, sumFor, latest, Outputs, OutputsFollow}
 use Rattle.course.proofs.Copies.{trigger-length}
@@ -73,8 +73,8 @@ module _ (c v : ℕ) (w : List ℕ) (d o : ℕ) where
   output-out t x u (off a q g f) y k j h b s = absurd (a refl)
 
   traced-run : (t : ℕ) (s z : List ℕ) (x : Side) (xs : List Act) → 128 * c + 128 ≤ length (x .tables) → Ahead c v w 1 d t s z xs
-      → ((n : ℕ) → t + suc n ≡ d → run c x (before (suc n) xs) .channel .shown .output ≡ o)
-      → Course c v w 1 d t x → Traced t x → Traced (t + ticks xs) (run c x xs)
+      → ((n : ℕ) → t + suc n ≡ d → run c x (until (suc n) xs) .channel .shown .output ≡ o)
+      → Course c v w 1 d t x → Traced t x → Traced (t + ticksIn xs) (run c x xs)
   traced-run t s z x [] m a b e y = rw add-zero y
   traced-run t s z x (Tick u ∷ xs) m a b e y =
       let k : Ticked c v w 1 d t u x = ticked c v w 1 d t u x m (λ q. a .loads 0 (omega arith)) (λ q. a .enabled 0 (omega arith)) e in
@@ -106,32 +106,32 @@ module _ (s l : List ℕ) (c : ℕ) (ch : Channel) (v : ℕ) (room : 128 * c + 1
 
   -- the output just before the start
   abbrev o′ : ℕ
-  o′ = run c (triggered s l c ch v) (before d′ xs) .channel .shown .output
+  o′ = run c (triggered s l c ch v) (until d′ xs) .channel .shown .output
 
   ahead-on : Ahead c v w′ 1 d′ 0 s z xs
   ahead-on = subst (λ (a : ℕ). Ahead c v w′ a d′ 0 s z xs) on (ahead s l c ch v room xs z)
 
-  tick-on : Ticked c v w′ 1 d′ (ticks xs) z now
-  tick-on = subst (λ (a : ℕ). Ticked c v w′ a d′ (ticks xs) z now) on (tick-now s l c ch v room xs z)
+  tick-on : Ticked c v w′ 1 d′ (ticksIn xs) z now
+  tick-on = subst (λ (a : ℕ). Ticked c v w′ a d′ (ticksIn xs) z now) on (tick-now s l c ch v room xs z)
 
-  traced : Traced c v w′ d′ o′ (ticks xs) now
+  traced : Traced c v w′ d′ o′ (ticksIn xs) now
   unfolding Traced
   traced =
       rw zero-add at
       (traced-run c v w′ d′ o′ 0 s z (triggered s l c ch v) xs (rw (trigger-length s l c ch v) room) ahead-on
-      (λ n q. let e : d′ ≡ suc n = omega arith in ap (λ (m : ℕ). run c (triggered s l c ch v) (before m xs) .channel .shown .output) (sym e))
+      (λ n q. let e : d′ ≡ suc n = omega arith in ap (λ (m : ℕ). run c (triggered s l c ch v) (until m xs) .channel .shown .output) (sym e))
       (course-trigger s l c ch v room xs z 1)
       (λ m j h g e. absurd (omega arith)))
 
-  before-start : ticks xs + 1 ≡ d′ → now .channel .shown .output ≡ o′
+  before-start : ticksIn xs + 1 ≡ d′ → now .channel .shown .output ≡ o′
   before-start q =
-      let e : suc (ticks xs) ≡ d′ = omega arith in
+      let e : suc (ticksIn xs) ≡ d′ = omega arith in
       ap (λ (ys : List Act). run c (triggered s l c ch v) ys .channel .shown .output)
-      (sym (before-all (ticks xs) xs (omega arith)) ∙ ap (λ (n : ℕ). before n xs) e)
+      (sym (before-all (ticksIn xs) xs (omega arith)) ∙ ap (λ (n : ℕ). until n xs) e)
 
-  outputs : Outputs c v d′ w′ o′ (ticks xs) now (act c now (Tick z))
+  outputs : Outputs c v d′ w′ o′ (ticksIn xs) now (act c now (Tick z))
   unfolding Traced
-  outputs = record { between = traced; just = sample-out c v w′ d′ o′ (ticks xs) z now tick-on traced before-start }
+  outputs = record { between = traced; just = sample-out c v w′ d′ o′ (ticksIn xs) z now tick-on traced before-start }
 
 -- Each output of a ramp is its sample's sum or, where that overflows, the output held just before
 pub outputs-follow : OutputsFollow

@@ -40,22 +40,22 @@ run c x [] = x
 run c x (y ∷ ys) = run c (act c x y) ys
 
 -- the ticks among the acts
-abbrev pub ticks : List Act → ℕ
-ticks [] = 0
-ticks (Tick s ∷ xs) = suc (ticks xs)
-ticks (Elsewhere l ∷ xs) = ticks xs
-ticks (Output v ∷ xs) = ticks xs
-ticks (Clear ∷ xs) = ticks xs
+abbrev pub ticksIn : List Act → ℕ
+ticksIn [] = 0
+ticksIn (Tick s ∷ xs) = suc (ticksIn xs)
+ticksIn (Elsewhere l ∷ xs) = ticksIn xs
+ticksIn (Output v ∷ xs) = ticksIn xs
+ticksIn (Clear ∷ xs) = ticksIn xs
 
 -- the acts before the n-th tick; none before the 0-th, which is the trigger
-abbrev pub before : ℕ → List Act → List Act
-before zero xs = []
-before (suc n) [] = []
-before (suc zero) (Tick s ∷ xs) = []
-before (suc (suc n)) (Tick s ∷ xs) = Tick s ∷ before (suc n) xs
-before (suc n) (Elsewhere l ∷ xs) = Elsewhere l ∷ before (suc n) xs
-before (suc n) (Output v ∷ xs) = Output v ∷ before (suc n) xs
-before (suc n) (Clear ∷ xs) = Clear ∷ before (suc n) xs
+abbrev pub until : ℕ → List Act → List Act
+until zero xs = []
+until (suc n) [] = []
+until (suc zero) (Tick s ∷ xs) = []
+until (suc (suc n)) (Tick s ∷ xs) = Tick s ∷ until (suc n) xs
+until (suc n) (Elsewhere l ∷ xs) = Elsewhere l ∷ until (suc n) xs
+until (suc n) (Output v ∷ xs) = Output v ∷ until (suc n) xs
+until (suc n) (Clear ∷ xs) = Clear ∷ until (suc n) xs
 
 -- the settings held on the n-th tick: s on the 0-th, which is the trigger; z, those of the tick that follows the acts, where they have none
 abbrev pub heldOn : List ℕ → List ℕ → ℕ → List Act → List ℕ

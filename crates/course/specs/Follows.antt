@@ -12,7 +12,7 @@ use Rattle.channel.specs.declared.Phase.the-variants.{Rest, Counting, Running}
 use Rattle.channel.specs.Ramp.{give}
 use Rattle.channel.specs.Channel.{Side, word, firstOf, loadedFor, blank, countdown, triggered}
 use Rattle.course.specs.Points.{total, placeOf, SameTable}
-use Rattle.course.specs.Course.{Act, Tick, act, run, ticks, heldOn}
+use Rattle.course.specs.Course.{Act, Tick, act, run, ticksIn, heldOn}
 
 -- channel c's ramp for a level under the settings s: its table's first word, T, the place of sample k, and what that makes of the words shown
 abbrev pub tableFor : List ℕ → ℕ → ℕ → ℕ
@@ -49,12 +49,12 @@ pub record Follows (c level d : ℕ) (s : List ℕ) (a t : ℕ) (now later : Sid
   -- not enabled on tick d: nothing starts
   pub off : (a ≡ 1 → ⊥) → d ≤ t → now .channel .phase ≡ Rest
 
--- Demand 3: channel c holds ch and the loaded tables are l when a trigger of a level comes under the settings s. Then come the acts xs,
+-- Demand 3 of one channel: it holds ch and the loaded tables are l when a trigger of a level comes under the settings s. Then come the acts xs,
 -- no trigger among them, and then a tick under the settings z. The tables have room for the channel's 128 words.
-unfoldable pub Demand3 : Type 0
-Demand3 =
+unfoldable pub TriggerFollowed : Type 0
+TriggerFollowed =
     (s l : List ℕ) (c : ℕ) (ch : Channel) (level : ℕ) → 128 * c + 128 ≤ length l
     → (xs : List Act) (z : List ℕ)
     → let d : ℕ = countdown s c level in
     let now : Side = run c (triggered s l c ch level) xs in
-    Follows c level d (heldOn s z (d - 10) xs) (word (heldOn s z d xs) (enableAt c)) (ticks xs) now (act c now (Tick z))
+    Follows c level d (heldOn s z (d - 10) xs) (word (heldOn s z d xs) (enableAt c)) (ticksIn xs) now (act c now (Tick z))

@@ -9,7 +9,7 @@ use Rattle.sum.specs.declared.Sum.the-variants.{Word, Overflow}
 use Rattle.channel.specs.declared.Channel.{Channel}
 use Rattle.channel.specs.Ramp.{sampleAt}
 use Rattle.channel.specs.Channel.{Side, word, loadedFor, countdown, triggered}
-use Rattle.course.specs.Course.{Act, Tick, act, run, ticks, before, heldOn}
+use Rattle.course.specs.Course.{Act, Tick, act, run, ticksIn, until, heldOn}
 use Rattle.course.specs.Follows.{tableFor, totalFor, placeFor}
 
 -- 'the rounded sum .. or, where that overflows, the output held just before'
@@ -42,4 +42,4 @@ OutputsFollow =
     → let d : ℕ = countdown s c level in
     let x : Side = triggered s l c ch level in
     word (heldOn s z d xs) (enableAt c) ≡ 1
-    → Outputs c level d (heldOn s z (d - 10) xs) (run c x (before d xs) .channel .shown .output) (ticks xs) (run c x xs) (act c (run c x xs) (Tick z))
+    → Outputs c level d (heldOn s z (d - 10) xs) (run c x (until d xs) .channel .shown .output) (ticksIn xs) (run c x xs) (act c (run c x xs) (Tick z))

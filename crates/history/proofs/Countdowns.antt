@@ -204,7 +204,7 @@ module _ (st : State) (h : Sound st) (c : ℕ) (inside : c < 4) where
 
 -- ---- a write
 
-untimed-ramp : (c : ℕ) (x : Side) (ys : List C.Act) → C.ticks ys ≡ 0
+untimed-ramp : (c : ℕ) (x : Side) (ys : List C.Act) → C.ticksIn ys ≡ 0
     → (C.run c x ys .channel .phase ≡ x .channel .phase) × (C.run c x ys .channel .loaded ≡ x .channel .loaded)
 untimed-ramp c x [] e = (refl, refl)
 untimed-ramp c x (C.Tick s ∷ ys) e = absurd (omega arith)

@@ -19,7 +19,7 @@ use Rattle.course.specs.Follows.{Follows}
 use Rattle.course.specs.Follows as F
 use Rattle.course.proofs.Acts.{tick-elsewhere, trigger-elsewhere, run-length, held-next}
 use Rattle.course.proofs.Appends.{run-append, ticks-append, held-later}
-use Rattle.course.proofs.Follows.{demand3}
+use Rattle.course.proofs.Follows.{trigger-followed}
 use Rattle.history.specs.History.{Act, Tick, Write, Read, Reset, act, acts, triggerBy, Quiet, ticksIn, until}
 use Rattle.history.specs.Triggers.{eventBy}
 use Rattle.history.specs.Countdowns.{justBefore}
@@ -31,12 +31,12 @@ use Rattle.history.proofs.Manual.{manual-write}
 
 -- ---- acts without ticks, before other acts or after them
 
-held-untimed : (s z : List ℕ) (n : ℕ) (xs ys : List C.Act) → C.ticks xs ≡ 0 → C.heldOn s z (suc n) (xs ++ ys) ≡ C.heldOn s z (suc n) ys
+held-untimed : (s z : List ℕ) (n : ℕ) (xs ys : List C.Act) → C.ticksIn xs ≡ 0 → C.heldOn s z (suc n) (xs ++ ys) ≡ C.heldOn s z (suc n) ys
 held-untimed s z n xs ys e =
-    let d : suc n ≡ suc (C.ticks xs + n) = omega arith in
+    let d : suc n ≡ suc (C.ticksIn xs + n) = omega arith in
     ap (λ (m : ℕ). C.heldOn s z m (xs ++ ys)) d ∙ held-later s z n xs ys
 
-held-end : (s z : List ℕ) (n : ℕ) (xs ys : List C.Act) → C.ticks ys ≡ 0 → C.heldOn s z n (xs ++ ys) ≡ C.heldOn s z n xs
+held-end : (s z : List ℕ) (n : ℕ) (xs ys : List C.Act) → C.ticksIn ys ≡ 0 → C.heldOn s z n (xs ++ ys) ≡ C.heldOn s z n xs
 held-end s z zero xs ys e = refl
 held-end s z (suc n) [] ys e = held-next s z n ys (omega arith)
 held-end s z (suc zero) (C.Tick u ∷ xs) ys e = refl
@@ -108,7 +108,7 @@ advanced-settings st = refl
 
 record Tracked (c : ℕ) (st : State) (xs : List Act) : Type 0 where
   doings : List C.Act
-  same-ticks : C.ticks doings ≡ ticksIn xs
+  same-ticks : C.ticksIn doings ≡ ticksIn xs
   runs : C.run c (sideAt st c) doings ≡ sideAt (acts st xs) c
   held : (s z : List ℕ) → acts st xs .settings ≡ z → (n : ℕ) → C.heldOn s z (suc n) doings ≡ acts st (until (suc n) xs) .settings
   settled : length (acts st xs .card .channels) ≡ 4
@@ -248,10 +248,10 @@ module _ (c : ℕ) (inside : c < 4) (from : State) (level event : ℕ) (k : Stat
   held-all : (n : ℕ) → C.heldOn s z n all ≡ acts k (until n xs) .settings
   held-all n = held-end s z n zs (w .before) (w .none) ∙ held-zs n
 
-  ticks-zs : C.ticks zs ≡ ticksIn xs
+  ticks-zs : C.ticksIn zs ≡ ticksIn xs
   ticks-zs = ticks-append (y .after) (r .doings) ∙ omega (arith, y .none-after, r .same-ticks)
 
-  ticks-all : C.ticks all ≡ ticksIn xs
+  ticks-all : C.ticksIn all ≡ ticksIn xs
   ticks-all = ticks-append zs (w .before) ∙ omega (arith, w .none, ticks-zs)
 
   runs-zs : C.run c set-off zs ≡ sideAt (acts k xs) c
@@ -268,17 +268,17 @@ module _ (c : ℕ) (inside : c < 4) (from : State) (level event : ℕ) (k : Stat
 
   -- demand 3 of the channel after the acts ys, where their settings, ticks and side are the card's
   by-channel : 512 ≤ length (from .tables) → (ys : List C.Act) (now : Side) → ((n : ℕ) → C.heldOn s z n ys ≡ acts k (until n xs) .settings)
-      → C.ticks ys ≡ ticksIn xs → C.run c set-off ys ≡ now
+      → C.ticksIn ys ≡ ticksIn xs → C.run c set-off ys ≡ now
       → Follows c level (countdown (k .settings) c level) (acts k (until (countdown (k .settings) c level - 10) xs) .settings)
       (word (acts k (until (countdown (k .settings) c level) xs) .settings) (enableAt c)) (ticksIn xs) now (C.act c now (C.Tick z))
-  unfolding F.Demand3
+  unfolding F.TriggerFollowed
   by-channel h ys now f t e =
       same-later
       (same-follows c level _ _ _ _ _ _ _ _ _ _ _ same-delay
       (f (countdown s c level - 10) ∙ ap (λ (n : ℕ). acts k (until (n - 10) xs) .settings) same-delay)
       (ap (λ (u : List ℕ). word u (enableAt c)) (f (countdown s c level) ∙ ap (λ (n : ℕ). acts k (until n xs) .settings) same-delay))
       t e
-      (demand3 s (y .mid) c (channelOf (from .card) c) level (room-mid h) ys z))
+      (trigger-followed s (y .mid) c (channelOf (from .card) c) level (room-mid h) ys z))
     where
       same-later : {d : ℕ} {u : List ℕ} {a t : ℕ} → Follows c level d u a t now (C.act c (C.run c set-off ys) (C.Tick z))
           → Follows c level d u a t now (C.act c now (C.Tick z))

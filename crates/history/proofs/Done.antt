@@ -26,7 +26,7 @@ use Rattle.history.proofs.Writing.{write-by}
 -- acts of the channel, no tick among them
 pub record Part (c : ℕ) (x y : State) : Type 0 where
   pub acts : List C.Act
-  pub none : C.ticks acts ≡ 0
+  pub none : C.ticksIn acts ≡ 0
   pub runs : C.run c (sideAt x c) acts ≡ sideAt y c
   pub settled : length (y .card .channels) ≡ 4
 

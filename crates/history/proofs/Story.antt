@@ -172,7 +172,7 @@ module _ (s l m : List ℕ) (c : ℕ) (ch : Channel) (same : SameTable m (firstO
   same-tick (Running p t) h = same-ramp (Going p t) h
 
 -- acts without a tick leave channel c's words
-pub untimed : (c : ℕ) (x : Side) (ys : List C.Act) → C.ticks ys ≡ 0 → 128 * c + 128 ≤ length (x .tables) → SameTable (C.run c x ys .tables) (firstOf c) (x .tables) (firstOf c)
+pub untimed : (c : ℕ) (x : Side) (ys : List C.Act) → C.ticksIn ys ≡ 0 → 128 * c + 128 ≤ length (x .tables) → SameTable (C.run c x ys .tables) (firstOf c) (x .tables) (firstOf c)
 untimed c x [] e h i f = refl
 untimed c x (C.Tick s ∷ ys) e h i f = absurd (omega arith)
 untimed c x (C.Elsewhere l ∷ ys) e h i f =

@@ -18,8 +18,8 @@ module _ (f : ℕ → List ℕ → Channel → Side)
     pub before : List C.Act
     pub after : List C.Act
     pub mid : List ℕ
-    pub none : C.ticks before ≡ 0
-    pub none-after : C.ticks after ≡ 0
+    pub none : C.ticksIn before ≡ 0
+    pub none-after : C.ticksIn after ≡ 0
     pub comes : C.run c (side (channelOf k c) l) before ≡ side (channelOf k c) mid
     pub same : f c mid (channelOf k c) .channel ≡ channelOf (withChannels k (onAll f k l .channels)) c
     pub goes : C.run c (f c mid (channelOf k c)) after ≡ side (channelOf (withChannels k (onAll f k l .channels)) c) (onAll f k l .tables)
