@@ -36,7 +36,7 @@ use Rattle.history.specs.Countdowns.{toStart, justBefore, CountdownsSet,
 use Rattle.history.specs.Demand3.{sideAt}
 use Rattle.history.proofs.Turns.{Turn}
 use Rattle.history.proofs.Done.{write-part}
-use Rattle.history.proofs.Demand3.{TickTurn, tick-turn, tick-same, TriggerTurn, trigger-turn, trigger-same, trigger-settings, trigger-is, before-room}
+use Rattle.history.proofs.Tracks.{TickTurn, tick-turn, tick-same, TriggerTurn, trigger-turn, trigger-same, trigger-settings, trigger-is, before-room}
 use Rattle.history.proofs.Story.{placed-next, untimed}
 
 -- ---- the countdowns

@@ -15,6 +15,7 @@ pub mod Demand1
 pub mod Turns
 pub mod Done
 pub mod Manual
+pub mod Tracks
 pub mod Demand3
 pub mod Settings
 pub mod Counts

@@ -51,7 +51,7 @@ use Rattle.history.proofs.Effects.{passed-does}
 use Rattle.history.proofs.Writing.{write-by}
 use Rattle.history.proofs.Done.{none-first}
 use Rattle.history.proofs.Manual.{manual-alone, manual-write}
-use Rattle.history.proofs.Demand3.{TickTurn, tick-turn, tick-same, trigger-turn, trigger-same}
+use Rattle.history.proofs.Tracks.{TickTurn, tick-turn, tick-same, trigger-turn, trigger-same}
 
 -- the channel shows what is told
 record Right (ch : Channel) (x : Told) : Type 0 where

@@ -8,6 +8,7 @@ use Rattle.slots.specs.declared.Holder.the-variants.{Level, Nobody}
 use Rattle.channel.specs.Channel.{Side, side, word, countdown}
 use Rattle.card.specs.Card.{State, channelOf}
 use Rattle.course.specs.Follows.{Follows}
+use Rattle.course.specs.Outputs.{Outputs}
 use Rattle.history.specs.History.{Act, Tick, act, acts, triggerBy, Quiet, ticksIn, until}
 
 -- channel c, and the loaded tables beside it
@@ -27,4 +28,7 @@ Demand3 =
     let d : ℕ = countdown (k .settings) c level in
     let loaded : List ℕ = acts k (until (d - 10) xs) .settings in
     let enable : ℕ = word (acts k (until d xs) .settings) (enableAt c) in
-    Follows c level d loaded enable (ticksIn xs) (sideAt (acts k xs) c) (sideAt (act (acts k xs) (Tick event)) c)
+    let output : ℕ = channelOf (acts k (until d xs) .card) c .shown .output in
+    let now : Side = sideAt (acts k xs) c in
+    let later : Side = sideAt (act (acts k xs) (Tick event)) c in
+    Follows c level d loaded enable (ticksIn xs) now later × (enable ≡ 1 → Outputs c level d loaded output (ticksIn xs) now later)
