@@ -6,7 +6,9 @@ use native.Mathlib.Nat.{zero-add, suc-add}
 use native.Mathlib.Omega.{arith}
 use Rattle.card.specs.declared.Card.{Card}
 use Rattle.card.specs.Card.{State, state}
-use Rattle.card.specs.Trigger.{acceptedOf}
+use Rattle.slots.specs.declared.Holder.{Holder}
+use Rattle.slots.specs.declared.Holder.the-variants.{Level, Nobody}
+use Rattle.card.specs.Trigger.{triggerOf, acceptedOf, onEvent}
 use Rattle.card.specs.Tick.{advanced, tickWith, ticks}
 
 -- TICKS (a + b) IS TICKS b AFTER TICKS a
@@ -15,11 +17,30 @@ unfolding ticks
 ticks-add zero b st = ap (λ (n : ℕ). ticks n st) (zero-add b)
 ticks-add (suc a) b st = ap (λ (n : ℕ). ticks n st) (suc-add a b) ∙ ticks-add a b (advanced st)
 
--- A TICK WITHOUT EVENT TOUCHES NO SETTING
-pub settings-kept : (n : ℕ) (st : State) → ticks n st .settings ≡ st .settings
+-- ---- no tick and no trigger touches a setting
+
+pub advanced-settings : (st : State) → advanced st .settings ≡ st .settings
+unfolding advanced
+advanced-settings st = refl
+
+pub trigger-settings : (st : State) (level event : ℕ) → triggerOf st level event .settings ≡ st .settings
+unfolding triggerOf
+trigger-settings st level event = refl
+
+-- A TICK TOUCHES NO SETTING, WHATEVER ITS EVENT
+pub tick-settings : (st : State) (event : ℕ) → tickWith st event .settings ≡ st .settings
+unfolding advanced
+tick-settings st event = go (acceptedOf (st .settings) event)
+  where
+    go : (h : Holder) → onEvent h (advanced st) event .settings ≡ st .settings
+    go (Level level) = trigger-settings (advanced st) level event
+    go Nobody = refl
+
+-- NOR DO N TICKS
+pub ticks-settings : (n : ℕ) (st : State) → ticks n st .settings ≡ st .settings
 unfolding ticks advanced
-settings-kept zero st = refl
-settings-kept (suc n) st = settings-kept n (advanced st)
+ticks-settings zero st = refl
+ticks-settings (suc n) st = ticks-settings n (advanced st)
 
 -- a tick with the null event is a tick without one
 pub no-event : (st : State) → tickWith st 0xFE ≡ advanced st

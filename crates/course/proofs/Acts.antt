@@ -145,6 +145,28 @@ module _ (v : ℕ) (ch : Channel) where
   unfolding written
   not-written e = rw e
 
+-- ---- acts without a tick
+
+-- acts without a tick leave channel c's words
+pub untimed-table : (c : ℕ) (x : Side) (ys : List Act) → ticksIn ys ≡ 0 → 128 * c + 128 ≤ length (x .tables) → SameTable (run c x ys .tables) (firstOf c) (x .tables) (firstOf c)
+untimed-table c x [] e h i f = refl
+untimed-table c x (Tick s ∷ ys) e h i f = absurd (omega arith)
+untimed-table c x (Elsewhere l ∷ ys) e h i f =
+    untimed-table c (act c x (Elsewhere l)) ys e (rw (elsewhere-length c (x .tables) l) h) i f ∙ elsewhere-in c (x .tables) l h i f
+untimed-table c x (Output v ∷ ys) e h i f = untimed-table c (act c x (Output v)) ys e h i f
+untimed-table c x (Clear ∷ ys) e h i f = untimed-table c (act c x Clear) ys e h i f
+
+-- and its ramp and copy
+pub untimed-ramp : (c : ℕ) (x : Side) (ys : List Act) → ticksIn ys ≡ 0
+    → (run c x ys .channel .phase ≡ x .channel .phase) × (run c x ys .channel .loaded ≡ x .channel .loaded)
+untimed-ramp c x [] e = (refl, refl)
+untimed-ramp c x (Tick s ∷ ys) e = absurd (omega arith)
+untimed-ramp c x (Elsewhere l ∷ ys) e = untimed-ramp c (act c x (Elsewhere l)) ys e
+untimed-ramp c x (Output v ∷ ys) e =
+    let r = untimed-ramp c (act c x (Output v)) ys e in
+    (r .0 ∙ written-phase v (x .channel), r .1 ∙ written-loaded v (x .channel))
+untimed-ramp c x (Clear ∷ ys) e = untimed-ramp c (act c x Clear) ys e
+
 -- ---- the acts before a tick, and the settings held on it
 
 -- the acts before a tick that does not come are all of them

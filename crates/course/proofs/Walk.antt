@@ -8,7 +8,9 @@ use native.Mathlib.Nat.{sub-zero}
 use native.Mathlib.Numerals.{add-one}
 use lib.Dec.{leb, ltb, eqb}
 use borrow.Author.Tests.{leb-false, ltb-true, ltb-false, eqb-false, lt-ltb, le-ltb, le-leb}
+use Rattle.word.specs.Word.{grown}
 use Rattle.word.specs.Table.{stepAt, isEnd, stepsBefore}
+use Rattle.channel.specs.declared.Place.{Place}
 use Rattle.channel.specs.Ramp.{place, enter, next}
 use Rattle.course.specs.Points.{endFrom, endPoint, total, placeFrom, placeOf}
 use Rattle.course.proofs.Tables.{Placed, grown-small}
@@ -144,3 +146,21 @@ module _ (w : List ℕ) (first : ℕ) where
   pub place-last : (k : ℕ) → k ≡ total w first → placeOf w first k .left .0 ≡ 0
   unfolding placeOf
   place-last k h = place-end 63 0 k (rw total-all at h)
+
+-- ---- where a ramp comes to from any place before point 63
+
+pub placed-enter : (w : List ℕ) (first n : ℕ) → n ≤ 63 → Placed (enter w first n)
+unfolding enter
+placed-enter w first n h = go (isEnd n (stepAt w first n)) refl
+  where
+    go : (b : Bool) → isEnd n (stepAt w first n) ≡ b → Placed (place n (cond b 0 (stepAt w first n)))
+    go true e = record { most = h; inner = λ z. absurd (omega arith) }
+    go false e = record { most = h; inner = λ z. on n (stepAt w first n) e .0 }
+
+pub placed-next : (w : List ℕ) (first : ℕ) (p : Place) → p .segment < 63 → Placed (next w first p)
+unfolding next
+placed-next w first p h = go (ltb 1 (p .left .0))
+  where
+    go : (b : Bool) → Placed (cond b (place (p .segment) (p .left .0 - 1)) (enter w first (grown (p .segment))))
+    go true = record { most = omega arith; inner = λ z. h }
+    go false = rw (grown-small (p .segment) h) (placed-enter w first (p .segment + 1) (omega arith))

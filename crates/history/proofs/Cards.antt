@@ -33,17 +33,30 @@ module _ (k : Card) (c : ℕ) (ch : Channel) where
   pub channel-same : c < 4 → length (k .channels) ≡ 4 → channelOf (withChannel k c ch) c ≡ ch
   channel-same h l = rw (lt-ltb c 4 h) (getD-set-same (k .channels) c ch noChannel (omega arith))
 
-  pub channel-many : length (withChannel k c ch .channels) ≡ length (k .channels)
-  channel-many = go (ltb c 4)
+  -- what the new channel leaves as it is in the changed card, it leaves
+  pub channel-keeps : {A : Type 0} (f : Card → A) → f (record { channels = set (k .channels) c ch; counts = k .counts; level = k .level; event = k .event }) ≡ f k
+      → f (withChannel k c ch) ≡ f k
+  channel-keeps f e = go (ltb c 4)
     where
-      go : (b : Bool) → length (cond b (record { channels = set (k .channels) c ch; counts = k .counts; level = k .level; event = k .event }) k .channels) ≡ length (k .channels)
-      go true = length-set (k .channels) c ch
+      go : (b : Bool) → f (cond b (record { channels = set (k .channels) c ch; counts = k .counts; level = k .level; event = k .event }) k) ≡ f k
+      go true = e
       go false = refl
 
--- a count changes no channel
-pub count-channels : (k : Card) (level n : ℕ) → withCount k level n .channels ≡ k .channels
-count-channels k level n = go (ltb level 32)
-  where
-    go : (b : Bool) → cond b (record { channels = k .channels; counts = set (k .counts) level n; level = k .level; event = k .event }) k .channels ≡ k .channels
-    go true = refl
-    go false = refl
+  pub channel-many : length (withChannel k c ch .channels) ≡ length (k .channels)
+  channel-many = channel-keeps (λ (x : Card). length (x .channels)) (length-set (k .channels) c ch)
+
+module _ (k : Card) (level n : ℕ) where
+  -- the same of another count
+  pub count-keeps : {A : Type 0} (f : Card → A) → f (record { channels = k .channels; counts = set (k .counts) level n; level = k .level; event = k .event }) ≡ f k
+      → f (withCount k level n) ≡ f k
+  count-keeps f e = go (ltb level 32)
+    where
+      go : (b : Bool) → f (cond b (record { channels = k .channels; counts = set (k .counts) level n; level = k .level; event = k .event }) k) ≡ f k
+      go true = e
+      go false = refl
+
+  pub count-channels : withCount k level n .channels ≡ k .channels
+  count-channels = count-keeps (λ (x : Card). x .channels) refl
+
+  pub count-many : length (withCount k level n .counts) ≡ length (k .counts)
+  count-many = count-keeps (λ (x : Card). length (x .counts)) (length-set (k .counts) level n)

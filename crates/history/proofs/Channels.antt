@@ -30,8 +30,8 @@ use Rattle.channel.specs.declared.Channel.{Channel}
 use Rattle.channel.specs.Ramp.{place, enter, next, sampleAt, put, give, given, advance}
 use Rattle.channel.specs.Channel.{Side, side, with, word, firstOf, lead, rampOf, phaseOf, copied, load, start, countTo, tickAt, tickOf, countdown, triggered}
 use Rattle.course.proofs.Copies.{choose, copied-length}
-use Rattle.course.proofs.Tables.{Placed, grown-small}
-use Rattle.course.proofs.Walk.{on}
+use Rattle.course.proofs.Tables.{Placed}
+use Rattle.course.proofs.Walk.{placed-enter, placed-next}
 use Rattle.history.specs.Sound.{Words, Tables, RampSound, Countdown, PhaseSound, ShownSound, ChannelSound}
 use Rattle.history.proofs.Fixed.{ramp-map-register}
 use Rattle.history.proofs.Words.{set-word}
@@ -87,21 +87,21 @@ module _ (w : List ℕ) (first : ℕ) where
           let f : 1 ≤ p .left .0 = omega arith in
           record { inner = a .placed .inner f; left = f; small = a .small; wait = omega arith; soon = omega arith }
 
-  enter-at : (n : ℕ) → n ≤ 63 → ((i : ℕ) → word w i < 65536) → At (enter w first n)
+  enter-small : (n : ℕ) → ((i : ℕ) → word w i < 65536) → enter w first n .left .0 < 65536
   unfolding enter
-  enter-at n h f = go (isEnd n (stepAt w first n)) refl
-    where
-      go : (b : Bool) → isEnd n (stepAt w first n) ≡ b → At (place n (cond b 0 (stepAt w first n)))
-      go true e = record { placed = record { most = h; inner = λ z. absurd (omega arith) }; small = omega arith }
-      go false e = record { placed = record { most = h; inner = λ z. on n (stepAt w first n) e .0 }; small = f (first + 2 * n + 1) }
+  enter-small n f = choose (λ (m : ℕ). m < 65536) (isEnd n (stepAt w first n)) 0 (stepAt w first n) (omega arith) (f (first + 2 * n + 1))
+
+  next-small : (p : Place) → p .left .0 < 65536 → ((i : ℕ) → word w i < 65536) → next w first p .left .0 < 65536
+  unfolding next
+  next-small p g f =
+      choose (λ (q : Place). q .left .0 < 65536) (ltb 1 (p .left .0)) (place (p .segment) (p .left .0 - 1)) (enter w first (grown (p .segment))) (omega arith)
+      (enter-small (grown (p .segment)) f)
+
+  enter-at : (n : ℕ) → n ≤ 63 → ((i : ℕ) → word w i < 65536) → At (enter w first n)
+  enter-at n h f = record { placed = placed-enter w first n h; small = enter-small n f }
 
   next-at : (p : Place) → p .segment < 63 → p .left .0 < 65536 → ((i : ℕ) → word w i < 65536) → At (next w first p)
-  unfolding next
-  next-at p h g f = go (ltb 1 (p .left .0)) refl
-    where
-      go : (b : Bool) → ltb 1 (p .left .0) ≡ b → At (cond b (place (p .segment) (p .left .0 - 1)) (enter w first (grown (p .segment))))
-      go true e = record { placed = record { most = omega arith; inner = λ z. h }; small = omega arith }
-      go false e = rw (grown-small (p .segment) h) (enter-at (p .segment + 1) (omega arith) f)
+  next-at p h g f = record { placed = placed-next w first p h; small = next-small p g f }
 
   advance-sound : (l : Loaded) (r : Ramp) (s : Shown) → ((i : ℕ) → word w i < 65536) → RampSound r → ShownSound s → MovedSound (advance w first l r s)
   unfolding advance
@@ -132,7 +132,7 @@ phase-sound : (r : Ramp) → RampSound r → PhaseSound (phaseOf r)
 phase-sound Still h = tt
 phase-sound (Going p t) h = h
 
-ramp-sound : (p : Phase) → PhaseSound p → RampSound (rampOf p)
+pub ramp-sound : (p : Phase) → PhaseSound p → RampSound (rampOf p)
 ramp-sound Rest h = tt
 ramp-sound (Counting n older) h = h .ramp
 ramp-sound (Running p t) h = h

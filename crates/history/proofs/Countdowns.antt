@@ -26,18 +26,20 @@ use Rattle.card.specs.Card.{State, channelOf, onAll}
 use Rattle.card.specs.Trigger.{triggerOf}
 use Rattle.card.specs.Tick.{advanced}
 use Rattle.course.specs.Points.{SameTable}
+use Rattle.card.proofs.Ticks.{trigger-settings}
 use Rattle.course.specs.Course as C
-use Rattle.course.proofs.Acts.{tick-elsewhere, trigger-elsewhere, run-length, written-phase, written-loaded}
+use Rattle.course.proofs.Acts.{tick-elsewhere, trigger-elsewhere, run-length, untimed-table, untimed-ramp}
 use Rattle.course.proofs.Tables.{same-next, same-give}
+use Rattle.course.proofs.Walk.{placed-next}
 use Rattle.history.specs.History.{Act, Tick, Write, act, triggerBy}
 use Rattle.history.specs.Sound.{Sound, RampSound, PhaseSound}
 use Rattle.history.specs.Triggers.{eventBy}
 use Rattle.history.specs.Countdowns.{toStart, justBefore, CountdownsSet, RampKept, stepped, GoesOn, OlderGoesOn}
 use Rattle.history.specs.Demand3.{sideAt}
+use Rattle.history.proofs.Channels.{ramp-sound}
 use Rattle.history.proofs.Turns.{Turn}
 use Rattle.history.proofs.Done.{write-part}
-use Rattle.history.proofs.Tracks.{TickTurn, tick-turn, tick-same, TriggerTurn, trigger-turn, trigger-same, trigger-settings, trigger-is, before-room}
-use Rattle.history.proofs.Story.{placed-next, untimed}
+use Rattle.history.proofs.Tracks.{TickTurn, tick-turn, tick-same, TriggerTurn, trigger-turn, trigger-same, trigger-is, before-room}
 
 -- ---- the countdowns
 
@@ -83,23 +85,24 @@ module _ (f : ℕ → List ℕ → Channel → Side)
       → SameTable (onAll f k l .tables) (firstOf c) l (firstOf c)
   turn-table y e room i h =
       sym (ap (λ (x : Side). word (x .tables) (firstOf c + i)) (y .goes))
-      ∙ untimed c (f c (y .mid) (channelOf k c)) (y .after) (y .none-after) (omega (arith, ap length e, long)) i h
+      ∙ untimed-table c (f c (y .mid) (channelOf k c)) (y .after) (y .none-after) (omega (arith, ap length e, long)) i h
       ∙ ap (λ (t : List ℕ). word t (firstOf c + i)) e
       ∙ sym (ap (λ (x : Side). word (x .tables) (firstOf c + i)) (y .comes))
-      ∙ untimed c (side (channelOf k c) l) (y .before) (y .none) room i h
+      ∙ untimed-table c (side (channelOf k c) l) (y .before) (y .none) room i h
     where
       long : length (y .mid) ≡ length l
       long = sym (ap (λ (x : Side). length (x .tables)) (y .comes)) ∙ run-length c (side (channelOf k c) l) (y .before)
 
 -- ---- a trigger
 
-record Left (s l : List ℕ) (c : ℕ) (ch : Channel) (x : Side) : Type 0 where
+-- what a trigger that does not load leaves of a channel
+record Left (l : List ℕ) (ch : Channel) (x : Side) : Type 0 where
   ramp : rampOf (x .channel .phase) ≡ rampOf (ch .phase)
   loaded : x .channel .loaded ≡ ch .loaded
   shown : x .channel .shown ≡ ch .shown
   tables : x .tables ≡ l
 
-later-leaves : (s l : List ℕ) (c : ℕ) (ch : Channel) (level : ℕ) → lead < countdown s c level → Left s l c ch (triggered s l c ch level)
+later-leaves : (s l : List ℕ) (c : ℕ) (ch : Channel) (level : ℕ) → lead < countdown s c level → Left l ch (triggered s l c ch level)
 unfolding triggered
 later-leaves s l c ch level h =
     rw (ne-eqb (countdown s c level) lead (λ d. absurd (omega arith))) (record { ramp = refl; loaded = refl; shown = refl; tables = refl })
@@ -111,7 +114,7 @@ module _ (st : State) (x : Act) (level : ℕ) (e : triggerBy st x ≡ Level leve
   abbrev y : TriggerTurn k level c
   y = trigger-turn k level c h
 
-  leaves : Left (k .settings) (y .mid) c (channelOf (k .card) c) (triggered (k .settings) (y .mid) c (channelOf (k .card) c) level)
+  leaves : Left (y .mid) (channelOf (k .card) c) (triggered (k .settings) (y .mid) c (channelOf (k .card) c) level)
   leaves = later-leaves (k .settings) (y .mid) c (channelOf (k .card) c) level (rw (same-countdown st x level c e) at far)
 
   trigger-table : 512 ≤ length (st .tables) → SameTable (act st x .tables) (firstOf c) (k .tables) (firstOf c)
@@ -169,11 +172,6 @@ running-moves s l c ch p t (Running a b) e f = record { ramp = rw e (ramp-phase 
 running-moves s l c ch p t Rest e f = let z : _≡_ {A = ℕ} 0 1 = cc in absurd (omega arith)
 running-moves s l c ch p t (Counting n older) e f = let z : _≡_ {A = ℕ} 0 1 = cc in absurd (omega arith)
 
-ramp-sound : (p : Phase) → PhaseSound p → RampSound (rampOf p)
-ramp-sound Rest k = tt
-ramp-sound (Counting n older) k = k .ramp
-ramp-sound (Running p t) k = k
-
 module _ (st : State) (h : Sound st) (c : ℕ) (inside : c < 4) where
   abbrev ch : Channel
   ch = channelOf (st .card) c
@@ -197,22 +195,12 @@ module _ (st : State) (h : Sound st) (c : ℕ) (inside : c < 4) where
       }
     where
       same : SameTable (turn .mid) (firstOf c) (st .tables) (firstOf c)
-      same = rw (turn .comes) at (untimed c (side ch (st .tables)) (turn .before) (turn .none) (omega (arith, h .tables .many)))
+      same = rw (turn .comes) at (untimed-table c (side ch (st .tables)) (turn .before) (turn .none) (omega (arith, h .tables .many)))
 
       e : advance (turn .mid) (firstOf c) (ch .loaded) (rampOf (ch .phase)) (ch .shown) ≡ stepped c st
       e = same-advance (st .tables) (turn .mid) c same (ch .loaded) (ch .shown) (rampOf (ch .phase)) (ramp-sound (ch .phase) (h .card .channels c .phase))
 
 -- ---- a write
-
-untimed-ramp : (c : ℕ) (x : Side) (ys : List C.Act) → C.ticksIn ys ≡ 0
-    → (C.run c x ys .channel .phase ≡ x .channel .phase) × (C.run c x ys .channel .loaded ≡ x .channel .loaded)
-untimed-ramp c x [] e = (refl, refl)
-untimed-ramp c x (C.Tick s ∷ ys) e = absurd (omega arith)
-untimed-ramp c x (C.Elsewhere l ∷ ys) e = untimed-ramp c (C.act c x (C.Elsewhere l)) ys e
-untimed-ramp c x (C.Output v ∷ ys) e =
-    let r = untimed-ramp c (C.act c x (C.Output v)) ys e in
-    (r .0 ∙ written-phase v (x .channel), r .1 ∙ written-loaded v (x .channel))
-untimed-ramp c x (C.Clear ∷ ys) e = untimed-ramp c (C.act c x C.Clear) ys e
 
 write-keeps-ramp : (st : State) → Sound st → (start count : ℕ) (ws : List ℕ) → triggerBy st (Write start count ws) ≡ Nobody → (c : ℕ) → c < 4
     → RampKept c st (act st (Write start count ws))
@@ -222,7 +210,7 @@ write-keeps-ramp st h start count ws e c i =
     record {
       ramp = ap (λ (x : Side). rampOf (x .channel .phase)) (sym (p .runs)) ∙ ap rampOf (r .0);
       loaded = ap (λ (x : Side). x .channel .loaded) (sym (p .runs)) ∙ r .1;
-      table = λ n g. ap (λ (x : Side). word (x .tables) (firstOf c + n)) (sym (p .runs)) ∙ untimed c (sideAt st c) (p .acts) (p .none) (omega (arith, h .tables .many)) n g;
+      table = λ n g. ap (λ (x : Side). word (x .tables) (firstOf c + n)) (sym (p .runs)) ∙ untimed-table c (sideAt st c) (p .acts) (p .none) (omega (arith, h .tables .many)) n g;
     }
 
 -- UNTIL THE LOAD AN OLDER RAMP GOES ON

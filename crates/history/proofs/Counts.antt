@@ -25,26 +25,11 @@ use Rattle.history.specs.History.{Act, Tick, Write, Read, Reset, act, ac
 use Rattle.history.specs.Effects.{isSetting, Does, Keeps, Outputs, ClearsOverflow, ClearsCount, Erases, Idles, Triggers}
 use Rattle.history.specs.Counts.{doesAt, clears, tally, triggersSince, CountsRight}
 use Rattle.history.proofs.Addresses.{count-register}
+use Rattle.history.proofs.Cards.{channel-keeps, count-many}
 use Rattle.history.proofs.Effects.{passed-does}
 use Rattle.history.proofs.Writing.{write-by}
 use Rattle.history.proofs.Done.{none-first}
 use Rattle.history.proofs.Manual.{manual-write}
-
--- ---- a card with another count or another channel
-
-channel-counts : (k : Card) (c : ℕ) (ch : Channel) → withChannel k c ch .counts ≡ k .counts
-channel-counts k c ch = go (ltb c 4)
-  where
-    go : (b : Bool) → cond b (record { channels = set (k .channels) c ch; counts = k .counts; level = k .level; event = k .event }) k .counts ≡ k .counts
-    go true = refl
-    go false = refl
-
-count-many : (k : Card) (l n : ℕ) → length (withCount k l n .counts) ≡ length (k .counts)
-count-many k l n = go (ltb l 32)
-  where
-    go : (b : Bool) → length (cond b (record { channels = k .channels; counts = set (k .counts) l n; level = k .level; event = k .event }) k .counts) ≡ length (k .counts)
-    go true = length-set (k .counts) l n
-    go false = refl
 
 module _ (level : ℕ) (inside : level < 32) where
   count-at : (k : Card) (l n : ℕ) → length (k .counts) ≡ 32 → countOf (withCount k l n) level ≡ cond (eqb level l) n (countOf k level)
@@ -94,9 +79,9 @@ module _ (level : ℕ) (inside : level < 32) where
   word-count st a v y f n (Keeps i e) =
       stays st y a f (λ d. true≢false (sym i ∙ ap (λ b. isSetting (registerOf b)) d ∙ ap isSetting (count-register level inside))) (ap (λ (x : State). x .card .counts) e)
   word-count st a v y f n (Outputs c h i g e) =
-      stays st y a f (λ d. absurd (omega arith)) (ap (λ (x : State). x .card .counts) e ∙ channel-counts (st .card) c (outputTo (channelOf (st .card) c) v))
+      stays st y a f (λ d. absurd (omega arith)) (ap (λ (x : State). x .card .counts) e ∙ channel-keeps (st .card) c (outputTo (channelOf (st .card) c) v) (λ (k : Card). k .counts) refl)
   word-count st a v y f n (ClearsOverflow c h i e) =
-      stays st y a f (λ d. absurd (omega arith)) (ap (λ (x : State). x .card .counts) e ∙ channel-counts (st .card) c (overflowCleared (channelOf (st .card) c)))
+      stays st y a f (λ d. absurd (omega arith)) (ap (λ (x : State). x .card .counts) e ∙ channel-keeps (st .card) c (overflowCleared (channelOf (st .card) c)) (λ (k : Card). k .counts) refl)
   word-count st a v y f n (ClearsCount l h i e) = subst (λ x. Counted st x (eqb a (0x4220 + level)) 0) (sym e) (cleared st a l f i)
   word-count st a v y f n (Erases i g e) = stays st y a f (λ d. absurd (omega arith)) (ap (λ (x : State). x .card .counts) e)
   word-count st a v y f n (Idles i g e) = stays st y a f (λ d. absurd (omega arith)) (ap (λ (x : State). x .card .counts) e)

@@ -14,6 +14,7 @@ use Rattle.channel.specs.Channel.{Side, side, word, countdown, triggered}
 use Rattle.card.specs.Card.{State, channelOf}
 use Rattle.card.specs.Trigger.{triggerOf}
 use Rattle.card.specs.Tick.{advanced}
+use Rattle.card.proofs.Ticks.{trigger-settings}
 use Rattle.course.specs.Course as C
 use Rattle.course.specs.Follows.{Follows}
 use Rattle.course.specs.Follows as F
@@ -26,7 +27,7 @@ use Rattle.history.specs.History.{Act, Tick, act, acts, ticksIn, until}
 use Rattle.history.specs.Triggers.{eventBy}
 use Rattle.history.specs.Countdowns.{justBefore}
 use Rattle.history.specs.Demand3.{sideAt, Demand3}
-use Rattle.history.proofs.Tracks.{until-untimed, held-untimed, held-end, TickTurn, tick-turn, quiet-tick, tick-same, TriggerTurn, trigger-turn, trigger-goes, trigger-four, trigger-settings, Tracked, tracked, trigger-is, before-room}
+use Rattle.history.proofs.Tracks.{until-untimed, held-untimed, held-end, TickTurn, tick-turn, quiet-tick, tick-same, TriggerTurn, trigger-turn, trigger-goes, trigger-four, Tracked, tracked, trigger-is, before-room}
 
 -- what is so now, and what the next tick does
 join : (c level d : ℕ) (s : List ℕ) (a t : ℕ) (now x y later z : Side) → y .channel ≡ now .channel → later .channel ≡ z .channel

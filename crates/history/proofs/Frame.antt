@@ -3,7 +3,7 @@
 use mathlib.Core.Path.{_≡_, refl, _∙_}
 use mathlib.Core.Bool.{Bool, true, false, cond}
 use mathlib.Core.List.{List}
-use Prim.Native.Nat.{ℕ, _<_}
+use Prim.Native.Nat.{ℕ, _+_, _≤_, _<_}
 use native.Mathlib.Omega.{arith}
 use lib.Dec.{ltb}
 use lib.ListN.{set, length-set}
@@ -25,8 +25,8 @@ use Rattle.transfer.specs.Word.{judgeOf, effectOf, outputTo, overflowCleared, p
 use Rattle.course.proofs.Copies.{trigger-length}
 use Rattle.history.specs.Frame.{InBlock, But, Frame, SameLengths, LengthsKept}
 use Rattle.history.proofs.Registers.{Own, own, region-ends}
-use Rattle.history.proofs.Cards.{channel-other, channel-either}
-use Rattle.history.proofs.Transfers.{each-any, write-keeps}
+use Rattle.history.proofs.Cards.{channel-other, channel-either, channel-keeps}
+use Rattle.history.proofs.Writing.{write-within, write-by}
 
 -- ---- one word
 
@@ -78,27 +78,12 @@ module _ (c : ℕ) (x : State) where
         pending = channel-either (x .card) c ch (λ y. y .level ≡ channelOf (x .card) c .level) q refl;
         loaded = channel-either (x .card) c ch (λ y. y .loaded ≡ channelOf (x .card) c .loaded) r refl;
         place = channel-either (x .card) c ch (λ y. y .shown .place ≡ channelOf (x .card) c .shown .place) u refl;
-        counts = rest-counts (ltb c 4);
-        level = rest-level (ltb c 4);
-        event = rest-event (ltb c 4);
+        counts = channel-keeps (x .card) c ch (λ (k : Card). k .counts) refl;
+        level = channel-keeps (x .card) c ch (λ (k : Card). k .level) refl;
+        event = channel-keeps (x .card) c ch (λ (k : Card). k .event) refl;
         tables = refl;
         settings = λ b d. refl;
       }
-    where
-      new : Card
-      new = record { channels = set (x .card .channels) c ch; counts = x .card .counts; level = x .card .level; event = x .card .event }
-
-      rest-counts : (b : Bool) → cond b new (x .card) .counts ≡ x .card .counts
-      rest-counts true = refl
-      rest-counts false = refl
-
-      rest-level : (b : Bool) → cond b new (x .card) .level ≡ x .card .level
-      rest-level true = refl
-      rest-level false = refl
-
-      rest-event : (b : Bool) → cond b new (x .card) .event ≡ x .card .event
-      rest-event true = refl
-      rest-event false = refl
 
   but-done : (r : Register) (a v : ℕ) → Own c r → InBlock c a → But c x (performOf x a (effectOf r v))
   but-done (R.Setting s) a v o i = but-kept a v i
@@ -108,21 +93,15 @@ module _ (c : ℕ) (x : State) where
   but-done (R.Overflow d) a v o i = rw o (but-shown (overflowCleared (channelOf (x .card) c)) refl refl refl refl)
   but-done R.Unlisted a v o i = but-none c x
 
-  but-word : c < 4 → (a v : ℕ) → InBlock c a → But c x (writeWord x a v .state)
-  unfolding writeWord
-  but-word h a v i = go (judgeOf (x .settings) (x .card) (registerOf a) v)
-    where
-      go : (d : Verdict) → But c x (onVerdict d x a v .state)
-      go Accepted = but-done (registerOf a) a v (own c a h i) i
-      go (Refused why) = but-none c x
-
 -- A WRITE IN CHANNEL c'S BLOCK TOUCHES THAT CHANNEL ALONE
 pub frame : Frame
 unfolding Frame
 frame c h st start count ws i =
-    write-keeps (But c st) (λ v. Unit) st start count ws (each-any ws)
-    (λ q e x a v f g t p. let l = region-ends c start q h i e in but-then c st x (writeWord x a v .state) p (but-word c x h a v (omega arith, omega arith)))
-    (but-none c st)
+    write-within (λ x a vs z. start ≤ a → But c x z) (λ x a f. but-none c x) st start count ws
+    (λ q e x a v vs z l p r f. let m = region-ends c start q h i e in
+    let b : InBlock c a = (omega arith, omega arith) in
+    but-then c x (performOf x a (effectOf (registerOf a) v)) z (but-done c x (registerOf a) a v (own c a h b) b) (r (omega arith)))
+    (omega arith)
 
 -- ---- the lengths
 
@@ -150,18 +129,9 @@ lengths-done x a Erase = record { settings = erased-length (x .settings); tables
 lengths-done x a (Trigger level) = trigger-lengths x level 0xFE
 lengths-done x a Nothing = record { settings = refl; tables = refl }
 
-pub lengths-word : (x : State) (a v : ℕ) → SameLengths x (writeWord x a v .state)
-unfolding writeWord
-lengths-word x a v = go (judgeOf (x .settings) (x .card) (registerOf a) v)
-  where
-    go : (d : Verdict) → SameLengths x (onVerdict d x a v .state)
-    go Accepted = lengths-done x a (effectOf (registerOf a) v)
-    go (Refused why) = record { settings = refl; tables = refl }
-
 -- A WRITE KEEPS THE LENGTHS
 pub lengths-kept : LengthsKept
 unfolding LengthsKept
-lengths-kept st start count ws =
-    write-keeps (SameLengths st) (λ v. Unit) st start count ws (each-any ws)
-    (λ q e x a v f g t p. same-then st x (writeWord x a v .state) p (lengths-word x a v))
-    (record { settings = refl; tables = refl })
+lengths-kept =
+    write-by (λ x a vs z. SameLengths x z) (λ x a. record { settings = refl; tables = refl })
+    (λ x a v vs z p r. same-then x (performOf x a (effectOf (registerOf a) v)) z (lengths-done x a (effectOf (registerOf a) v)) r)

@@ -1,7 +1,6 @@
 pub mod Addresses
 pub mod Registers
 pub mod Cards
-pub mod Transfers
 pub mod Frame
 pub mod Fixed
 pub mod Words

@@ -17,9 +17,10 @@ use Rattle.transfer.specs.declared.Answer.{Answer}
 use Rattle.transfer.specs.declared.Answer.the-variants.{Done, BadCount, NoRegion, NoAccess, Beyond}
 use Rattle.transfer.specs.Word.{readWord}
 use Rattle.transfer.specs.Transfer.{Filled, numberOf, processedOf, badCount, readable, filled, readWords, readIn, readOf}
+use Rattle.transfer.proofs.Loops.{good-count}
 use Rattle.history.specs.History.{readBack}
 use Rattle.history.specs.Numbers.{first, once, readRefusal, Given, Once, Stopped, All}
-use Rattle.history.proofs.Writing.{Ends, whole, stop, good-count}
+use Rattle.history.proofs.Writing.{Ends, whole, stop}
 
 record Scan (q : Region) (s : List ℕ) (k : Card) (a i n : ℕ) (ws : List ℕ) (o : Filled) : Type 0 where
   many : ℕ
@@ -137,8 +138,8 @@ was-read st start count ws = go (badCount count (length ws)) refl (regionOf star
     may : (q : Region) → badCount count (length ws) ≡ false → (b : Bool) → readable (q .access) ≡ b
         → ReadSo (At q) st start count ws (cond b (readWords (st .settings) (st .card) start (q .last) 0 count ws) (filled ws NoAccess))
     may q e true f =
-        let l = good-count count ws e in
-        scanned q (readWords (st .settings) (st .card) start (q .last) 0 count ws) (rw (e, f)) (scan q (st .settings) (st .card) start 0 count ws (omega arith))
+        let l = good-count count (length ws) (sym e) refl in
+        scanned q (readWords (st .settings) (st .card) start (q .last) 0 count ws) (rw (e, f)) (scan q (st .settings) (st .card) start 0 count ws (omega (arith, l .0)))
     may q e false f = nothing-read (At q) st start count ws NoAccess (rw (e, f)) (omega arith) refl
 
     go : (b : Bool) → badCount count (length ws) ≡ b → (r : Found) → ReadSo r st start count ws (cond b (filled ws BadCount) (readIn (st .settings) (st .card) start count ws r))

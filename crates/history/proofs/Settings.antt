@@ -21,6 +21,7 @@ use Rattle.card.specs.Card.{State}
 use Rattle.card.specs.Trigger.{triggerOf, acceptedOf, onEvent}
 use Rattle.card.specs.Tick.{advanced}
 use Rattle.card.specs.Reset.{settingsReset, resetOf}
+use Rattle.card.proofs.Ticks.{trigger-settings, tick-settings}
 use Rattle.transfer.specs.Word.{effectOf, readAt}
 use Rattle.transfer.specs.Transfer.{writeOf}
 use Rattle.history.specs.History.{Act, Tick, Write, Read, Reset, act, acts, readBack, wordsDone}
@@ -75,10 +76,6 @@ module _ (b : ℕ) (setting : isSetting (registerOf b) ≡ true) where
   unfolding wordLeft
   erase-left s s′ a v x i e f = rw (other a R.Erase (ap registerOf i ∙ erase-register) refl, eq-eqb a 0x4201 i, e) f
 
-  trigger-settings : (st : State) (v : ℕ) → triggerOf st v 0xFE .settings ≡ st .settings
-  unfolding triggerOf
-  trigger-settings st v = refl
-
   abbrev words : State → List ℕ
   words x = x .settings
 
@@ -94,7 +91,7 @@ module _ (b : ℕ) (setting : isSetting (registerOf b) ≡ true) where
   word-left st a v y l (Idles i f e) = erase-left (st .settings) (y .settings) a v false i (ne-eqb v 1 (λ d. absurd (omega arith))) (ap (λ (x : State). word (x .settings) b) e)
   word-left st a v y l (Triggers i f e) =
       stays (st .settings) (y .settings) a v (other a R.Manual (ap registerOf i ∙ manual-register) refl) (ne-eqb a 0x4201 (λ d. absurd (omega arith)))
-      (ap words e ∙ trigger-settings st v)
+      (ap words e ∙ trigger-settings st v 0xFE)
 
   write-left : (st : State) (start count : ℕ) (ws : List ℕ) → length (st .settings) ≡ 16960
       → word (writeOf st start count ws .state .settings) b ≡ leftAt b start (wordsDone st start count ws) (word (st .settings) b)
@@ -131,14 +128,6 @@ module _ (b : ℕ) (setting : isSetting (registerOf b) ≡ true) where
           go false e q f true g true h false i = refl
           go false e q f true g false h u i = refl
           go false e q f false g t h u i = refl
-
-  tick-settings : (st : State) (event : ℕ) → act st (Tick event) .settings ≡ st .settings
-  unfolding advanced triggerOf
-  tick-settings st event = go (acceptedOf (st .settings) event)
-    where
-      go : (r : Holder) → onEvent r (advanced st) event .settings ≡ st .settings
-      go (Level l) = refl
-      go Nobody = refl
 
   write-length : (st : State) (start count : ℕ) (ws : List ℕ) → length (writeOf st start count ws .state .settings) ≡ length (st .settings)
   unfolding LengthsKept

@@ -7,7 +7,7 @@ use Prim.Native.Nat.{ℕ, zero, suc, _+_, _<_}
 use native.Mathlib.Omega.{arith}
 use native.Mathlib.Nat.{mod-lt}
 use lib.Dec.{ltb, eqb}
-use lib.ListN.{length, getD, set, replicate, length-set, getD-replicate, List·getD-eq-default}
+use lib.ListN.{length, getD, set, replicate, length-set, getD-replicate, List·getD-eq-default, take}
 use borrow.Author.Tests.{ltb-true, ltb-false, leb-true, eqb-true, eqb-false}
 use Rattle.word.specs.Word.{grown}
 use Rattle.map.specs.declared.Register.{Register}
@@ -30,14 +30,14 @@ use Rattle.transfer.specs.declared.Verdict.{Verdict}
 use Rattle.transfer.specs.declared.Verdict.the-variants.{Accepted, Refused}
 use Rattle.transfer.specs.declared.Effect.the-variants.{Keep, Output, Erase, Nothing}
 use Rattle.transfer.specs.Word.{judgeOf, effectOf, outputTo, overflowCleared, performOf, onVerdict, writeWord}
-use Rattle.transfer.specs.Transfer.{writeOf}
+use Rattle.transfer.specs.Transfer.{processedOf, writeOf}
 use Rattle.history.specs.History.{Act, Tick, Write, Read, Reset, acts, Each, Words16}
 use Rattle.history.specs.Sound.{Tables, ChannelSound, Sound, Reachable}
 use Rattle.history.proofs.Addresses.{slot-register}
 use Rattle.history.proofs.Words.{Passed, passed, set-word, stored, erased-words, reset-words}
 use Rattle.history.proofs.Channels.{SideSound, tick-sound, strike-sound}
-use Rattle.history.proofs.Cards.{channel-other, channel-either, count-channels}
-use Rattle.history.proofs.Transfers.{write-keeps}
+use Rattle.history.proofs.Cards.{channel-other, channel-either, count-channels, count-many}
+use Rattle.history.proofs.Writing.{write-by}
 
 -- ---- the four channels
 
@@ -93,13 +93,6 @@ count-small k level n h g j = go (ltb level 32)
     go : (b : Bool) → countOf (cond b (record { channels = k .channels; counts = set (k .counts) level n; level = k .level; event = k .event }) k) j < 65536
     go true = at (ltb j 32) (g j)
     go false = g j
-
-count-many : (k : Card) (level n : ℕ) → length (withCount k level n .counts) ≡ length (k .counts)
-count-many k level n = go (ltb level 32)
-  where
-    go : (b : Bool) → length (cond b (record { channels = k .channels; counts = set (k .counts) level n; level = k .level; event = k .event }) k .counts) ≡ length (k .counts)
-    go true = length-set (k .counts) level n
-    go false = refl
 
 grown-word : (n : ℕ) → grown n < 65536
 grown-word n = mod-lt (n + 1) (omega arith)
@@ -266,14 +259,6 @@ module _ (st : State) (h : Sound st) where
   done-sound (R.Count l) a v e i p = cleared-sound l
   done-sound R.Unlisted a v e i p = h
 
-  word-sound : (a v : ℕ) → v < 65536 → Sound (writeWord st a v .state)
-  unfolding writeWord
-  word-sound a v i = go (judgeOf (st .settings) (st .card) (registerOf a) v) refl
-    where
-      go : (d : Verdict) → judgeOf (st .settings) (st .card) (registerOf a) v ≡ d → Sound (onVerdict d st a v .state)
-      go Accepted e = done-sound (registerOf a) a v refl i (passed (st .settings) (st .card) (registerOf a) v e)
-      go (Refused why) e = h
-
 -- ---- every call
 
 reset-sound : (s l : List ℕ) → length s ≡ 16960 → length l ≡ 512 → Sound (resetOf s l)
@@ -319,8 +304,16 @@ unfolding ticks
 ticks-sound zero st h = h
 ticks-sound (suc n) st h = ticks-sound n (advanced st) (advanced-sound st h)
 
+each-take : (Q : ℕ → Type 0) (n : ℕ) (vs : List ℕ) → Each Q vs → Each Q (take n vs)
+each-take Q zero vs e = tt
+each-take Q (suc n) [] e = tt
+each-take Q (suc n) (v ∷ vs) e = (e .0, each-take Q n vs (e .1))
+
 write-sound : (st : State) (start count : ℕ) (ws : List ℕ) → Each (λ v. v < 65536) ws → Sound st → Sound (writeOf st start count ws .state)
-write-sound st start count ws w h = write-keeps Sound (λ v. v < 65536) st start count ws w (λ q e x a v f g i p. word-sound x p a v i) h
+write-sound st start count ws w h =
+    write-by (λ x a vs z. Each (λ v. v < 65536) vs → Sound x → Sound z) (λ x a w h. h)
+    (λ x a v vs z p r w h. r (w .1) (done-sound x h (registerOf a) a v refl (w .0) p))
+    st start count ws (each-take (λ v. v < 65536) (processedOf (writeOf st start count ws .answer)) ws w) h
 
 tick-sound-card : (st : State) (event : ℕ) → Sound st → Sound (tickWith st event)
 tick-sound-card st event h = event-sound (advanced st) (advanced-sound st h) event

@@ -37,9 +37,9 @@ use Rattle.transfer.specs.Word.{outputTo, overflowCleared}
 use Rattle.transfer.specs.Transfer.{writeOf}
 use Rattle.course.specs.Points.{SameTable}
 use Rattle.course.specs.Course as C
-use Rattle.course.proofs.Acts.{elsewhere-in, elsewhere-length}
+use Rattle.course.proofs.Acts.{untimed-table}
 use Rattle.course.proofs.Tables.{Placed, grown-small, same-enter, same-next, same-sample}
-use Rattle.course.proofs.Walk as W
+use Rattle.course.proofs.Walk.{placed-enter, placed-next}
 use Rattle.history.specs.History.{Act, Tick, Write, Read, Reset, act, acts, wordsDone, manualAmong, triggerBy, Words16}
 use Rattle.history.specs.Effects.{isSetting, Does, Keeps, Outputs, ClearsOverflow, ClearsCount, Erases, Idles, Triggers}
 use Rattle.history.specs.Sound.{Sound, PhaseSound, RampSound}
@@ -135,22 +135,6 @@ module _ (s l : List ℕ) (c : ℕ) (ch : Channel) (x : Told) (r : Right ch x) w
 
 -- ---- the tables of other channels do not matter
 
-placed-enter : (w : List ℕ) (first n : ℕ) → n ≤ 63 → Placed (enter w first n)
-unfolding enter
-placed-enter w first n h = go (isEnd n (stepAt w first n)) refl
-  where
-    go : (b : Bool) → isEnd n (stepAt w first n) ≡ b → Placed (place n (cond b 0 (stepAt w first n)))
-    go true e = record { most = h; inner = λ z. absurd (omega arith) }
-    go false e = record { most = h; inner = λ z. W.on n (stepAt w first n) e .0 }
-
-pub placed-next : (w : List ℕ) (first : ℕ) (p : Place) → p .segment < 63 → Placed (next w first p)
-unfolding next
-placed-next w first p h = go (ltb 1 (p .left .0))
-  where
-    go : (b : Bool) → Placed (cond b (place (p .segment) (p .left .0 - 1)) (enter w first (grown (p .segment))))
-    go true = record { most = omega arith; inner = λ z. h }
-    go false = rw (grown-small (p .segment) h) (placed-enter w first (p .segment + 1) (omega arith))
-
 module _ (s l m : List ℕ) (c : ℕ) (ch : Channel) (same : SameTable m (firstOf c) l (firstOf c)) where
   same-at : (p q : Place) → p ≡ q → Placed q → sample m c ch p ≡ sample l c ch q
   same-at p q e h = rw e (ap (λ (u : Sum). Sample q u ∷ []) (same-sample m (firstOf c) l (firstOf c) same (ch .loaded) q h))
@@ -170,15 +154,6 @@ module _ (s l m : List ℕ) (c : ℕ) (ch : Channel) (same : SameTable m (firstO
   same-tick Rest h = refl
   same-tick (Counting n older) h = rw (same-start, same-ramp older (h .ramp))
   same-tick (Running p t) h = same-ramp (Going p t) h
-
--- acts without a tick leave channel c's words
-pub untimed : (c : ℕ) (x : Side) (ys : List C.Act) → C.ticksIn ys ≡ 0 → 128 * c + 128 ≤ length (x .tables) → SameTable (C.run c x ys .tables) (firstOf c) (x .tables) (firstOf c)
-untimed c x [] e h i f = refl
-untimed c x (C.Tick s ∷ ys) e h i f = absurd (omega arith)
-untimed c x (C.Elsewhere l ∷ ys) e h i f =
-    untimed c (C.act c x (C.Elsewhere l)) ys e (rw (elsewhere-length c (x .tables) l) h) i f ∙ elsewhere-in c (x .tables) l h i f
-untimed c x (C.Output v ∷ ys) e h i f = untimed c (C.act c x (C.Output v)) ys e h i f
-untimed c x (C.Clear ∷ ys) e h i f = untimed c (C.act c x C.Clear) ys e h i f
 
 four-fresh : (k : ℕ) → k < 4 → channelOf cardReset k ≡ resetChannel
 unfolding cardReset
@@ -202,7 +177,7 @@ module _ (c : ℕ) (inside : c < 4) where
       y = tick-turn st c inside
 
       same : SameTable (y .mid) (firstOf c) (st .tables) (firstOf c)
-      same = rw (y .comes) at (untimed c (side ch (st .tables)) (y .before) (y .none) (omega (arith, h .tables .many)))
+      same = rw (y .comes) at (untimed-table c (side ch (st .tables)) (y .before) (y .none) (omega (arith, h .tables .many)))
 
       right : Right (tickAt (ch .phase) (st .settings) (y .mid) c ch .channel) (told x (byTick (ch .phase) (st .settings) (y .mid) c ch))
       right = tick-right (st .settings) (y .mid) c ch x r (ch .phase)

@@ -17,6 +17,7 @@ use Rattle.card.specs.Card.{State, channelOf, withChannels, countOf, onAll}
 use Rattle.card.specs.Trigger.{struck, triggerOf}
 use Rattle.card.specs.Tick.{advanced}
 use Rattle.word.specs.Word.{grown}
+use Rattle.card.proofs.Ticks.{advanced-settings}
 use Rattle.course.specs.Course as C
 use Rattle.course.specs.Follows.{Follows}
 use Rattle.course.specs.Follows as F
@@ -105,14 +106,6 @@ unfolding triggerOf onAll
 trigger-four st level event =
     let k : Card = withChannels (st .card) (struck st level .channels) in
     rw (count-channels k level (grown (countOf k level)))
-
-pub trigger-settings : (st : State) (level event : ℕ) → triggerOf st level event .settings ≡ st .settings
-unfolding triggerOf
-trigger-settings st level event = refl
-
-pub advanced-settings : (st : State) → advanced st .settings ≡ st .settings
-unfolding advanced
-advanced-settings st = refl
 
 -- ---- a history without triggers, on channel c
 

@@ -26,6 +26,7 @@ use Rattle.history.specs.Effects.{Does, Keeps, Outputs, ClearsOverflow, 
 use Rattle.history.specs.Sound.{Sound}
 use Rattle.history.specs.Triggers.{Holds, ByClock, ByHand, Accepted, TriggerRule, Active, active, activeAfter, lastActive, ActiveRight, ImageRight}
 use Rattle.history.proofs.Addresses.{clock-register, level-register, event-register, image-register}
+use Rattle.history.proofs.Cards.{channel-keeps, count-keeps}
 use Rattle.history.proofs.Effects.{passed-does}
 use Rattle.history.proofs.Writing.{write-by}
 use Rattle.history.proofs.Done.{none-first}
@@ -100,20 +101,6 @@ trigger-rule = record { accepted = accepted; only = only }
 abbrev shown : Card → Active
 shown k = active (k .level) (k .event)
 
-channel-active : (k : Card) (c : ℕ) (ch : Channel) → shown (withChannel k c ch) ≡ shown k
-channel-active k c ch = go (ltb c 4)
-  where
-    go : (b : Bool) → shown (cond b (record { channels = set (k .channels) c ch; counts = k .counts; level = k .level; event = k .event }) k) ≡ shown k
-    go true = refl
-    go false = refl
-
-count-active : (k : Card) (l n : ℕ) → shown (withCount k l n) ≡ shown k
-count-active k l n = go (ltb l 32)
-  where
-    go : (b : Bool) → shown (cond b (record { channels = k .channels; counts = set (k .counts) l n; level = k .level; event = k .event }) k) ≡ shown k
-    go true = refl
-    go false = refl
-
 trigger-active : (st : State) (l event : ℕ) → shown (triggerOf st l event .card) ≡ active l event
 unfolding triggerOf
 trigger-active st l event = refl
@@ -128,9 +115,9 @@ reset-shown s l = refl
 
 word-active : (st : State) (a v : ℕ) (y : State) → (a ≡ 0x4202 → ⊥) → Does st a v y → shown (y .card) ≡ shown (st .card)
 word-active st a v y n (Keeps i e) = ap (λ (x : State). shown (x .card)) e
-word-active st a v y n (Outputs c h i f e) = ap (λ (x : State). shown (x .card)) e ∙ channel-active (st .card) c (outputTo (channelOf (st .card) c) v)
-word-active st a v y n (ClearsOverflow c h i e) = ap (λ (x : State). shown (x .card)) e ∙ channel-active (st .card) c (overflowCleared (channelOf (st .card) c))
-word-active st a v y n (ClearsCount l h i e) = ap (λ (x : State). shown (x .card)) e ∙ count-active (st .card) l 0
+word-active st a v y n (Outputs c h i f e) = ap (λ (x : State). shown (x .card)) e ∙ channel-keeps (st .card) c (outputTo (channelOf (st .card) c) v) shown refl
+word-active st a v y n (ClearsOverflow c h i e) = ap (λ (x : State). shown (x .card)) e ∙ channel-keeps (st .card) c (overflowCleared (channelOf (st .card) c)) shown refl
+word-active st a v y n (ClearsCount l h i e) = ap (λ (x : State). shown (x .card)) e ∙ count-keeps (st .card) l 0 shown refl
 word-active st a v y n (Erases i f e) = ap (λ (x : State). shown (x .card)) e
 word-active st a v y n (Idles i f e) = ap (λ (x : State). shown (x .card)) e
 word-active st a v y n (Triggers i f e) = absurd (n i)

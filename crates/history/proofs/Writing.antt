@@ -24,6 +24,7 @@ use Rattle.transfer.specs.declared.Answer.{Answer}
 use Rattle.transfer.specs.declared.Answer.the-variants.{BadCount, NoRegion, NoAccess, Beyond, Refused}
 use Rattle.transfer.specs.Word.{fixedAt, heldAt, runningAt, judgeOf, effectOf, performOf, onVerdict, writeWord}
 use Rattle.transfer.specs.Transfer.{Out, out, whyNumber, numberOf, processedOf, badCount, writable, goOn, writeWords, writeIn, writeOf}
+use Rattle.transfer.proofs.Loops.{good-count}
 use Rattle.history.specs.History.{wordsDone, doneFrom}
 use Rattle.history.specs.Numbers.{case, first, once, toWrite, writeRefusal, Given, Once, Stopped, All}
 use Rattle.history.proofs.Words.{Passed, passed}
@@ -125,16 +126,6 @@ done-passes q st a (v ∷ vs) (suc n) h d (suc i) j =
 
 -- ---- a write
 
--- of a count that is not bad
-pub good-count : (count : ℕ) (ws : List ℕ) → badCount count (length ws) ≡ false → count ≤ length ws
-good-count count ws = go (eqb count 0) (ltb 16381 count) (ltb (length ws) count) refl
-  where
-    go : (x y z : Bool) → ltb (length ws) count ≡ z → x || (y || z) ≡ false → count ≤ length ws
-    go x y false f e = ltb-false (length ws) count f
-    go true y true f e = let z : _≡_ {A = ℕ} 0 1 = cc in absurd (omega arith)
-    go false true true f e = let z : _≡_ {A = ℕ} 0 1 = cc in absurd (omega arith)
-    go false false true f e = let z : _≡_ {A = ℕ} 0 1 = cc in absurd (omega arith)
-
 -- what a write of the words in the region r comes to
 pub record Result (r : Found) (st : State) (start count : ℕ) (ws : List ℕ) (o : Out) : Type 0 where
   pub given : Given (first (once writable r count ws)) (writeRefusal r st start ws) count (numberOf (o .answer)) (processedOf (o .answer))
@@ -191,7 +182,7 @@ written st start count ws = go (badCount count (length ws)) refl (regionOf start
     may : (q : Region) → badCount count (length ws) ≡ false → (b : Bool) → writable (q .access) ≡ b
         → Result (At q) st start count ws (cond b (writeWords st start (q .last) 0 (take count ws)) (out st NoAccess))
     may q e true f =
-        walked q st start count ws (good-count count ws e) (rw (e, f)) (writeWords st start (q .last) 0 (take count ws)) (walk q st start 0 (take count ws))
+        walked q st start count ws (good-count count (length ws) (sym e) refl .0) (rw (e, f)) (writeWords st start (q .last) 0 (take count ws)) (walk q st start 0 (take count ws))
     may q e false f = nothing-done (At q) st start count ws NoAccess (rw (e, f)) (omega arith) refl
 
     go : (b : Bool) → badCount count (length ws) ≡ b → (r : Found) → Result r st start count ws (cond b (out st BadCount) (writeIn st start count ws r))
@@ -210,18 +201,24 @@ no-region st start count ws e = rw e (go (badCount count (length ws)))
 
 -- ---- what holds word by word
 
--- a rule of words done from an address on, from a state to a state: of no words, and of one more word that has passed
-module _ (R : State → ℕ → List ℕ → State → Type 0) (none : (st : State) (a : ℕ) → R st a [] st)
-    (more : (st : State) (a v : ℕ) (vs : List ℕ) (z : State) → Passed (st .settings) (st .card) (registerOf a) v
-    → R (performOf st a (effectOf (registerOf a) v)) (a + 1) vs z → R st a (v ∷ vs) z) where
-  all-by : (q : Region) (st : State) (a : ℕ) (vs : List ℕ) → AllDone q st a vs → R st a vs (doneFrom st a vs)
-  all-by q st a [] d = none st a
-  all-by q st a (v ∷ vs) d =
-      more st a v vs _ (passed (st .settings) (st .card) (registerOf a) v (d .0 .1)) (all-by q (performOf st a (effectOf (registerOf a) v)) (a + 1) vs (d .1))
+-- a rule of words done from an address on, from a state to a state: it holds of no words
+module _ (R : State → ℕ → List ℕ → State → Type 0) (none : (st : State) (a : ℕ) → R st a [] st) where
+  -- and of one more word that has passed, in a region up to last
+  abbrev More : ℕ → Type 0
+  More last =
+      (st : State) (a v : ℕ) (vs : List ℕ) (z : State) → a ≤ last → Passed (st .settings) (st .card) (registerOf a) v
+      → R (performOf st a (effectOf (registerOf a) v)) (a + 1) vs z → R st a (v ∷ vs) z
 
-  -- WHAT HOLDS WORD BY WORD HOLDS OF A WRITE
-  pub write-by : (st : State) (start count : ℕ) (ws : List ℕ) → R st start (wordsDone st start count ws) (writeOf st start count ws .state)
-  write-by st start count ws = subst (R st start done) (sym (y .done)) (go (regionOf start) y (no-region st start count ws))
+  all-by : (q : Region) → More (q .last) → (st : State) (a : ℕ) (vs : List ℕ) → AllDone q st a vs → R st a vs (doneFrom st a vs)
+  all-by q m st a [] d = none st a
+  all-by q m st a (v ∷ vs) d =
+      m st a v vs _ (d .0 .0) (passed (st .settings) (st .card) (registerOf a) v (d .0 .1))
+      (all-by q m (performOf st a (effectOf (registerOf a) v)) (a + 1) vs (d .1))
+
+  -- WHAT HOLDS WORD BY WORD IN A REGION HOLDS OF A WRITE THAT STARTS IN IT
+  pub write-within : (st : State) (start count : ℕ) (ws : List ℕ) → ((q : Region) → regionOf start ≡ At q → More (q .last))
+      → R st start (wordsDone st start count ws) (writeOf st start count ws .state)
+  write-within st start count ws more = subst (R st start done) (sym (y .done)) (go (regionOf start) refl y)
     where
       done : List ℕ
       done = wordsDone st start count ws
@@ -229,6 +226,12 @@ module _ (R : State → ℕ → List ℕ → State → Type 0) (none : (st : Sta
       y : Result (regionOf start) st start count ws (writeOf st start count ws)
       y = written st start count ws
 
-      go : (r : Found) → Result r st start count ws (writeOf st start count ws) → (r ≡ Nothing → done ≡ []) → R st start done (doneFrom st start done)
-      go (At q) y n = all-by q st start done (y .all q refl)
-      go Nothing y n = rw (n refl) (none st start)
+      go : (r : Found) → regionOf start ≡ r → Result r st start count ws (writeOf st start count ws) → R st start done (doneFrom st start done)
+      go (At q) e y = all-by q (more q e) st start done (y .all q refl)
+      go Nothing e y = rw (no-region st start count ws e) (none st start)
+
+  -- AND WHAT HOLDS WORD BY WORD ANYWHERE
+  pub write-by : ((st : State) (a v : ℕ) (vs : List ℕ) (z : State) → Passed (st .settings) (st .card) (registerOf a) v
+      → R (performOf st a (effectOf (registerOf a) v)) (a + 1) vs z → R st a (v ∷ vs) z)
+      → (st : State) (start count : ℕ) (ws : List ℕ) → R st start (wordsDone st start count ws) (writeOf st start count ws .state)
+  write-by more st start count ws = write-within st start count ws (λ q e x a v vs z l p r. more x a v vs z p r)

@@ -5,6 +5,7 @@ use Prim.Native.Nat.{ℕ}
 use Rattle.card.specs.Card.{State}
 use Rattle.card.specs.Tick.{ticks}
 use Rattle.history.specs.History.{acts, idle}
+use Rattle.history.specs.Effects.{SettingsAre}
 use Rattle.history.specs.Settings.{SettingsKept}
 use Rattle.history.specs.Counts.{CountsRight}
 use Rattle.history.specs.Triggers.{TriggerRule, ActiveRight, ImageRight}
@@ -16,8 +17,9 @@ unfoldable pub TicksAre : Type 0
 TicksAre = (n : ℕ) (st : State) → ticks n st ≡ acts st (idle n)
 
 pub record Demand2 : Type 0 where
-  -- the settings
+  -- the settings, and which words those are
   pub settings : SettingsKept
+  pub are : SettingsAre
   -- 0x4220 to 0x423F, by the triggers accepted; which those are, and what each sets
   pub counts : CountsRight
   pub triggers : TriggerRule
@@ -26,9 +28,10 @@ pub record Demand2 : Type 0 where
   pub active : ActiveRight
   -- 0x4100 to 0x41FF
   pub image : ImageRight
-  -- A04, A30 to A34 and A39: after a reset no ramp, then what happens; when it happens is demand 3, and until a new load the older ramp
-  pub rest : AtRest
+  -- A04, A30 to A34 and A39: what happens on the channel. When it happens is demand 3; before it nothing runs, and from a later trigger to
+  -- its load the older ramp goes on
   pub channels : ChannelsRight
+  pub rest : AtRest
   pub older : OlderGoesOn
   -- N ticks, no event
   pub ticks : TicksAre

@@ -76,17 +76,6 @@ small-frame s =
 pub small-of : (s : List ℕ) (f : Frame) → frameOf s ≡ f → small f
 small-of s f e = subst small e (small-frame s)
 
--- ---- a tick touches no setting
-
-event-keeps : (h : Holder) (st : State) (e : ℕ) → onEvent h st e .settings ≡ st .settings
-unfolding triggerOf
-event-keeps (Level l) st e = refl
-event-keeps Nobody st e = refl
-
-pub tick-keeps : (st : State) (e : ℕ) → tickWith st e .settings ≡ st .settings
-unfolding advanced
-tick-keeps st e = event-keeps (acceptedOf (advanced st .settings) e) (advanced st) e
-
 -- ---- a read processes at most as many words as it was asked for, and the slice keeps its length
 
 -- what a read of n words more, after i of them, has

@@ -3,7 +3,8 @@ use borrow.Author.Needs.{needs}
 use mathlib.Core.Path.{sym}
 use Rattle.card.specs.Card.{State, state}
 use Rattle.card.specs.Tick.{tickWith}
-use Rattle.line.proofs.Frames.{tick-keeps, ticked-answers}
+use Rattle.card.proofs.Ticks.{tick-settings}
+use Rattle.line.proofs.Frames.{ticked-answers}
 use Rattle.line.proofs.answer_event.Statement.{statement}
 use Rattle.line.proofs.answer_event.Tie as tie
 
@@ -24,7 +25,7 @@ returns c =
     let a = c .before .before .before .before .before .before .before .before .before .before .before .before .args in
     let st : State = state (a .card) (a .settings .now) (a .tables .now) in
     let r = c .before .before .before .before .before .before .tick .ensures in
-    ticked-answers (tickWith st (a .e)) 0x84 (a .at) (r .0) (r .1) (sym (tick-keeps st (a .e))) (c .before .before .put-outputs .ensures)
+    ticked-answers (tickWith st (a .e)) 0x84 (a .at) (r .0) (r .1) (sym (tick-settings st (a .e))) (c .before .before .put-outputs .ensures)
 
 pub answer-event-spec : {M : Type 1} → statement M
 answer-event-spec =

@@ -3,7 +3,7 @@ use borrow.Author.Needs.{needs}
 use mathlib.Core.Path.{sym}
 use Rattle.card.specs.Card.{State, state}
 use Rattle.card.specs.Tick.{ticks}
-use Rattle.card.proofs.Ticks.{settings-kept}
+use Rattle.card.proofs.Ticks.{ticks-settings}
 use Rattle.line.proofs.Frames.{ticked-answers}
 use Rattle.line.proofs.answer_ticks.Statement.{statement}
 use Rattle.line.proofs.answer_ticks.Tie as tie
@@ -25,7 +25,7 @@ returns c =
     let a = c .before .before .before .before .before .before .before .before .before .before .before .before .args in
     let st : State = state (a .card) (a .settings .now) (a .tables .now) in
     let r = c .before .before .before .before .before .before .run .ensures in
-    ticked-answers (ticks (a .n) st) 0x83 (a .at) (r .0) (r .1) (sym (settings-kept (a .n) st)) (c .before .before .put-outputs .ensures)
+    ticked-answers (ticks (a .n) st) 0x83 (a .at) (r .0) (r .1) (sym (ticks-settings (a .n) st)) (c .before .before .put-outputs .ensures)
 
 pub answer-ticks-spec : {M : Type 1} → statement M
 answer-ticks-spec =
