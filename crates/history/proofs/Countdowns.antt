@@ -2,7 +2,7 @@
 -- (`older-goes-on`). Assumes nothing.
 use mathlib.Core.Path.{_≡_, refl, sym, ap, _∙_}
 use mathlib.Core.Bool.{Bool, true, false, cond}
-use mathlib.Core.List.{List, [], _∷_}
+use mathlib.Core.List.{List}
 use Prim.Native.Nat.{ℕ, _+_, _*_, _-_, _≤_, _<_}
 use native.Mathlib.Omega.{arith}
 use lib.Dec.{eqb}
@@ -31,14 +31,14 @@ use Rattle.course.specs.Course as C
 use Rattle.course.proofs.Acts.{tick-elsewhere, trigger-elsewhere, run-length, untimed-table, untimed-ramp}
 use Rattle.course.proofs.Tables.{same-next, same-give}
 use Rattle.course.proofs.Walk.{placed-next}
-use Rattle.history.specs.History.{Act, Tick, Write, act, triggerBy}
-use Rattle.history.specs.Sound.{Sound, RampSound, PhaseSound}
+use Rattle.history.specs.History.{Act, Write, act, triggerBy}
+use Rattle.history.specs.Sound.{Sound, RampSound}
 use Rattle.history.specs.Triggers.{eventBy}
 use Rattle.history.specs.Countdowns.{toStart, justBefore, CountdownsSet, RampKept, stepped, GoesOn, OlderGoesOn}
 use Rattle.history.specs.Demand3.{sideAt}
 use Rattle.history.proofs.Channels.{ramp-sound}
 use Rattle.history.proofs.Turns.{Turn}
-use Rattle.history.proofs.Done.{write-part}
+use Rattle.history.proofs.Parts.{write-part}
 use Rattle.history.proofs.Tracks.{TickTurn, tick-turn, tick-same, TriggerTurn, trigger-turn, trigger-same, trigger-is, before-room}
 
 -- ---- the countdowns

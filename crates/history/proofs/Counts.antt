@@ -6,16 +6,15 @@ use mathlib.Core.List.{List, [], _∷_}
 use Prim.Native.Nat.{ℕ, _+_, _%_, _<_}
 use native.Mathlib.Omega.{arith}
 use lib.Dec.{eqb, ltb}
-use lib.ListN.{length, set, length-set, getD-replicate}
+use lib.ListN.{length, set, getD-replicate}
 use lib.Seq.{getD-set-same, getD-set-other}
 use borrow.Author.Tests.{lt-ltb, eq-eqb, ne-eqb, eqb-true, eqb-false}
 use Rattle.word.specs.Word.{grown}
 use Rattle.map.specs.Map.{registerOf}
 use Rattle.slots.specs.declared.Holder.{Holder}
 use Rattle.slots.specs.declared.Holder.the-variants.{Level, Nobody}
-use Rattle.channel.specs.declared.Channel.{Channel}
 use Rattle.card.specs.declared.Card.{Card}
-use Rattle.card.specs.Card.{State, state, channelOf, withChannel, countOf, withCount, withChannels}
+use Rattle.card.specs.Card.{State, state, channelOf, countOf, withCount, withChannels}
 use Rattle.card.specs.Trigger.{struck, triggerOf, acceptedOf, onEvent}
 use Rattle.card.specs.Tick.{advanced}
 use Rattle.card.specs.Reset.{cardReset, resetOf}
@@ -28,7 +27,7 @@ use Rattle.history.proofs.Addresses.{count-register}
 use Rattle.history.proofs.Cards.{channel-keeps, count-many}
 use Rattle.history.proofs.Effects.{passed-does}
 use Rattle.history.proofs.Writing.{write-by}
-use Rattle.history.proofs.Done.{none-first}
+use Rattle.history.proofs.Parts.{none-first}
 use Rattle.history.proofs.Manual.{manual-write}
 
 module _ (level : ℕ) (inside : level < 32) where

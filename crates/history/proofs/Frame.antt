@@ -1,11 +1,9 @@
 -- A write in channel c's block touches that channel alone (`frame`), and a write anywhere keeps the lengths (`lengths-kept`): each word
 -- does so by its register, and so the whole write. A read has no state in its answer, so it changes the lent words only. Assumes nothing.
 use mathlib.Core.Path.{_≡_, refl, _∙_}
-use mathlib.Core.Bool.{Bool, true, false, cond}
 use mathlib.Core.List.{List}
-use Prim.Native.Nat.{ℕ, _+_, _≤_, _<_}
+use Prim.Native.Nat.{ℕ, _≤_}
 use native.Mathlib.Omega.{arith}
-use lib.Dec.{ltb}
 use lib.ListN.{set, length-set}
 use lib.Seq.{getD-set-other}
 use Rattle.map.specs.declared.Register.{Register}
@@ -17,11 +15,9 @@ use Rattle.channel.specs.Channel.{word}
 use Rattle.card.specs.declared.Card.{Card}
 use Rattle.card.specs.Card.{State, state, channelOf, withChannel, onAll}
 use Rattle.card.specs.Trigger.{triggerOf}
-use Rattle.transfer.specs.declared.Verdict.{Verdict}
-use Rattle.transfer.specs.declared.Verdict.the-variants.{Accepted, Refused}
 use Rattle.transfer.specs.declared.Effect.{Effect}
 use Rattle.transfer.specs.declared.Effect.the-variants.{Keep, Output, ClearOverflow, ClearCount, Erase, Trigger, Nothing}
-use Rattle.transfer.specs.Word.{judgeOf, effectOf, outputTo, overflowCleared, performOf, onVerdict, writeWord}
+use Rattle.transfer.specs.Word.{effectOf, outputTo, overflowCleared, performOf}
 use Rattle.course.proofs.Copies.{trigger-length}
 use Rattle.history.specs.Frame.{InBlock, But, Frame, SameLengths, LengthsKept}
 use Rattle.history.proofs.Registers.{Own, own, region-ends}

@@ -12,7 +12,7 @@ pub mod Reading
 pub mod Numbers
 pub mod Demand1
 pub mod Turns
-pub mod Done
+pub mod Parts
 pub mod Manual
 pub mod Tracks
 pub mod Demand3

@@ -12,14 +12,10 @@ use borrow.Author.Tests.{ltb-true, ltb-false, lt-ltb, le-leb, lt-leb, leb-true, 
 use Rattle.map.specs.declared.Register.{Register}
 use Rattle.map.specs.declared.Register.the-variants as R
 use Rattle.map.specs.Map.{registerOf, named}
-use Rattle.slots.specs.declared.Holder.{Holder}
-use Rattle.slots.specs.declared.Holder.the-variants.{Level, Nobody}
 use Rattle.slots.specs.Slots.{erased}
 use Rattle.slots.proofs.Fills.{erased-else, filled-in}
 use Rattle.channel.specs.Channel.{word}
 use Rattle.card.specs.Card.{State}
-use Rattle.card.specs.Trigger.{triggerOf, acceptedOf, onEvent}
-use Rattle.card.specs.Tick.{advanced}
 use Rattle.card.specs.Reset.{settingsReset, resetOf}
 use Rattle.card.proofs.Ticks.{trigger-settings, tick-settings}
 use Rattle.transfer.specs.Word.{effectOf, readAt}

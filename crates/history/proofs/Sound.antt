@@ -26,15 +26,13 @@ use Rattle.card.specs.Card.{State, state, All, noChannel, channelOf, withChanne
 use Rattle.card.specs.Trigger.{struck, triggerOf, acceptedOf, onEvent, eventOf}
 use Rattle.card.specs.Tick.{advanced, tickWith, ticks}
 use Rattle.card.specs.Reset.{tablesReset, cardReset, resetOf}
-use Rattle.transfer.specs.declared.Verdict.{Verdict}
-use Rattle.transfer.specs.declared.Verdict.the-variants.{Accepted, Refused}
 use Rattle.transfer.specs.declared.Effect.the-variants.{Keep, Output, Erase, Nothing}
-use Rattle.transfer.specs.Word.{judgeOf, effectOf, outputTo, overflowCleared, performOf, onVerdict, writeWord}
+use Rattle.transfer.specs.Word.{effectOf, outputTo, overflowCleared, performOf}
 use Rattle.transfer.specs.Transfer.{processedOf, writeOf}
 use Rattle.history.specs.History.{Act, Tick, Write, Read, Reset, acts, Each, Words16}
 use Rattle.history.specs.Sound.{Tables, ChannelSound, Sound, Reachable}
 use Rattle.history.proofs.Addresses.{slot-register}
-use Rattle.history.proofs.Words.{Passed, passed, set-word, stored, erased-words, reset-words}
+use Rattle.history.proofs.Words.{Passed, set-word, stored, erased-words, reset-words}
 use Rattle.history.proofs.Channels.{SideSound, tick-sound, strike-sound}
 use Rattle.history.proofs.Cards.{channel-other, channel-either, count-channels, count-many}
 use Rattle.history.proofs.Writing.{write-by}

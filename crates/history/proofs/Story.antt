@@ -3,13 +3,11 @@
 use mathlib.Core.Path.{_≡_, refl, sym, ap, _∙_, subst}
 use mathlib.Core.Bool.{Bool, true, false, cond, true≢false}
 use mathlib.Core.List.{List, [], _∷_, _++_}
-use Prim.Native.Nat.{ℕ, zero, suc, _+_, _*_, _-_, _%_, _≤_, _<_}
+use Prim.Native.Nat.{ℕ, zero, suc, _+_, _-_, _%_, _≤_, _<_}
 use native.Mathlib.Omega.{arith}
 use lib.Dec.{ltb, eqb}
 use lib.ListN.{length}
 use borrow.Author.Tests.{eq-eqb, ne-eqb, eqb-true, eqb-false}
-use Rattle.word.specs.Word.{grown}
-use Rattle.word.specs.Table.{stepAt, isEnd}
 use Rattle.sum.specs.declared.Sum.{Sum}
 use Rattle.sum.specs.declared.Sum.the-variants.{Word, Overflow}
 use Rattle.map.specs.declared.Register.{Register}
@@ -27,7 +25,7 @@ use Rattle.channel.specs.declared.Phase.{Phase}
 use Rattle.channel.specs.declared.Phase.the-variants.{Rest, Counting, Running}
 use Rattle.channel.specs.declared.Channel.{Channel}
 use Rattle.channel.specs.Ramp.{place, enter, next, sampleAt, put, given, advance}
-use Rattle.channel.specs.Channel.{Side, word, with, firstOf, lead, load, loadedFor, start, side, rampOf, phaseOf, countTo, tickAt, countdown, triggered, resetChannel}
+use Rattle.channel.specs.Channel.{word, with, firstOf, lead, load, loadedFor, start, side, rampOf, phaseOf, countTo, tickAt, countdown, triggered, resetChannel}
 use Rattle.card.specs.declared.Card.{Card}
 use Rattle.card.specs.Card.{State, channelOf, withChannel}
 use Rattle.card.specs.Trigger.{triggerOf, acceptedOf, onEvent}
@@ -36,20 +34,19 @@ use Rattle.card.specs.Reset.{cardReset, resetOf}
 use Rattle.transfer.specs.Word.{outputTo, overflowCleared}
 use Rattle.transfer.specs.Transfer.{writeOf}
 use Rattle.course.specs.Points.{SameTable}
-use Rattle.course.specs.Course as C
 use Rattle.course.proofs.Acts.{untimed-table}
-use Rattle.course.proofs.Tables.{Placed, grown-small, same-enter, same-next, same-sample}
+use Rattle.course.proofs.Tables.{Placed, same-enter, same-next, same-sample}
 use Rattle.course.proofs.Walk.{placed-enter, placed-next}
 use Rattle.history.specs.History.{Act, Tick, Write, Read, Reset, act, acts, wordsDone, manualAmong, triggerBy, Words16}
 use Rattle.history.specs.Effects.{isSetting, Does, Keeps, Outputs, ClearsOverflow, ClearsCount, Erases, Idles, Triggers}
 use Rattle.history.specs.Sound.{Sound, PhaseSound, RampSound}
-use Rattle.history.specs.Story.{Happening, Load, Sample, Output, Clear, sample, byRamp, byStart, byTick, byTrigger, byWord, byWords, happens, story, Told, fresh, tell, told, Shows, ChannelsRight, AtRest}
+use Rattle.history.specs.Story.{Happening, Load, Sample, Output, Clear, sample, byRamp, byStart, inPhase, byTick, byTrigger, byWord, byWords, happens, story, Told, fresh, tell, told, Shows, ChannelsRight, AtRest}
 use Rattle.history.proofs.Addresses.{output-register, table-register, scale-register, offset-register, segment-register, left-register, overflow-register}
 use Rattle.history.proofs.Cards.{channel-same, channel-other, channel-many, count-channels}
 use Rattle.history.proofs.Sound.{reachable}
 use Rattle.history.proofs.Effects.{passed-does}
 use Rattle.history.proofs.Writing.{write-by}
-use Rattle.history.proofs.Done.{none-first}
+use Rattle.history.proofs.Parts.{none-first}
 use Rattle.history.proofs.Manual.{manual-alone, manual-write}
 use Rattle.history.proofs.Tracks.{TickTurn, tick-turn, tick-same, trigger-turn, trigger-same}
 
@@ -106,7 +103,7 @@ module _ (s l : List ℕ) (c : ℕ) (ch : Channel) (x : Told) (r : Right ch x) w
       go true = same-right (in-phase (Going p (record { 0 = t .0 - 1 })))
       go false = put-right (in-phase (m .ramp)) (next l (firstOf c) p) (sampleAt l (firstOf c) (ch .loaded) (next l (firstOf c) p))
 
-  tick-right : (p : Phase) → Right (tickAt p s l c ch .channel) (told x (byTick p s l c ch))
+  tick-right : (p : Phase) → Right (tickAt p s l c ch .channel) (told x (inPhase p s l c ch))
   unfolding tickAt countTo
   tick-right Rest = r
   tick-right (Counting n older) = go (eqb (n .0 - 1) 0) (eqb (n .0 - 1) lead)
@@ -150,7 +147,7 @@ module _ (s l m : List ℕ) (c : ℕ) (ch : Channel) (same : SameTable m (firstO
       ap (λ (hs : List Happening). cond (eqb (word s (enableAt c)) 1) hs [])
       (same-at _ _ (same-enter m (firstOf c) l (firstOf c) same 0 (omega arith)) (placed-enter l (firstOf c) 0 (omega arith)))
 
-  same-tick : (p : Phase) → PhaseSound p → byTick p s m c ch ≡ byTick p s l c ch
+  same-tick : (p : Phase) → PhaseSound p → inPhase p s m c ch ≡ inPhase p s l c ch
   same-tick Rest h = refl
   same-tick (Counting n older) h = rw (same-start, same-ramp older (h .ramp))
   same-tick (Running p t) h = same-ramp (Going p t) h
@@ -167,8 +164,8 @@ four-fresh (suc (suc (suc (suc k)))) h = absurd (omega arith)
 
 module _ (c : ℕ) (inside : c < 4) where
   advanced-right : (st : State) → Sound st → (x : Told) → Right (channelOf (st .card) c) x
-      → Right (channelOf (advanced st .card) c) (told x (byTick (channelOf (st .card) c .phase) (st .settings) (st .tables) c (channelOf (st .card) c)))
-  advanced-right st h x r = subst (λ hs. Right (channelOf (advanced st .card) c) (told x hs)) happen (subst (λ k. Right k (told x (byTick (ch .phase) (st .settings) (y .mid) c ch))) (tick-same st c y) right)
+      → Right (channelOf (advanced st .card) c) (told x (byTick (st .settings) (st .tables) c (channelOf (st .card) c)))
+  advanced-right st h x r = subst (λ hs. Right (channelOf (advanced st .card) c) (told x hs)) happen (subst (λ k. Right k (told x (inPhase (ch .phase) (st .settings) (y .mid) c ch))) (tick-same st c y) right)
     where
       ch : Channel
       ch = channelOf (st .card) c
@@ -179,10 +176,10 @@ module _ (c : ℕ) (inside : c < 4) where
       same : SameTable (y .mid) (firstOf c) (st .tables) (firstOf c)
       same = rw (y .comes) at (untimed-table c (side ch (st .tables)) (y .before) (y .none) (omega (arith, h .tables .many)))
 
-      right : Right (tickAt (ch .phase) (st .settings) (y .mid) c ch .channel) (told x (byTick (ch .phase) (st .settings) (y .mid) c ch))
+      right : Right (tickAt (ch .phase) (st .settings) (y .mid) c ch .channel) (told x (inPhase (ch .phase) (st .settings) (y .mid) c ch))
       right = tick-right (st .settings) (y .mid) c ch x r (ch .phase)
 
-      happen : byTick (ch .phase) (st .settings) (y .mid) c ch ≡ byTick (ch .phase) (st .settings) (st .tables) c ch
+      happen : inPhase (ch .phase) (st .settings) (y .mid) c ch ≡ inPhase (ch .phase) (st .settings) (st .tables) c ch
       happen = same-tick (st .settings) (st .tables) (y .mid) c ch same (ch .phase) (h .card .channels c .phase)
 
   struck-right : (st : State) (level event : ℕ) (x : Told) → Right (channelOf (st .card) c) x
@@ -274,7 +271,7 @@ module _ (c : ℕ) (inside : c < 4) where
   act-right st h (Tick event) x r = go (acceptedOf (st .settings) event)
     where
       hs : List Happening
-      hs = byTick (channelOf (st .card) c .phase) (st .settings) (st .tables) c (channelOf (st .card) c)
+      hs = byTick (st .settings) (st .tables) c (channelOf (st .card) c)
 
       moved : Right (channelOf (advanced st .card) c) (told x hs)
       moved = advanced-right st h x r

@@ -1,17 +1,13 @@
 -- A tick and a trigger of the card, seen from channel c; and a history without triggers, which is a few acts of the channel, told apart by
 -- what they tick (`tracked`). Assumes nothing.
 use mathlib.Core.Path.{_≡_, refl, sym, ap, _∙_}
-use mathlib.Core.Bool.{Bool, true, false, true≢false}
+use mathlib.Core.Bool.{true≢false}
 use mathlib.Core.List.{List, [], _∷_, _++_}
-use Prim.Native.Nat.{ℕ, zero, suc, _+_, _*_, _-_, _≤_, _<_}
+use Prim.Native.Nat.{ℕ, zero, suc, _+_, _<_}
 use native.Mathlib.Omega.{arith}
-use lib.Dec.{leb}
 use lib.ListN.{length}
-use borrow.Author.Tests.{leb-true, leb-false}
-use Rattle.map.specs.Addresses.{enableAt}
 use Rattle.slots.specs.declared.Holder.the-variants.{Level, Nobody}
-use Rattle.channel.specs.declared.Channel.{Channel}
-use Rattle.channel.specs.Channel.{Side, side, word, countdown, tickOf, triggered}
+use Rattle.channel.specs.Channel.{Side, side, tickOf, triggered}
 use Rattle.card.specs.declared.Card.{Card}
 use Rattle.card.specs.Card.{State, channelOf, withChannels, countOf, onAll}
 use Rattle.card.specs.Trigger.{struck, triggerOf}
@@ -19,20 +15,15 @@ use Rattle.card.specs.Tick.{advanced}
 use Rattle.word.specs.Word.{grown}
 use Rattle.card.proofs.Ticks.{advanced-settings}
 use Rattle.course.specs.Course as C
-use Rattle.course.specs.Follows.{Follows}
-use Rattle.course.specs.Follows as F
-use Rattle.course.proofs.Acts.{tick-elsewhere, trigger-elsewhere, run-length, before-all, held-next}
-use Rattle.course.proofs.Appends.{run-append, ticks-append, held-later, before-first, before-later}
-use Rattle.course.proofs.Follows.{trigger-followed}
-use Rattle.course.specs.Outputs.{Outputs, OutputsFollow}
-use Rattle.course.proofs.Outputs.{outputs-follow}
+use Rattle.course.proofs.Acts.{tick-elsewhere, trigger-elsewhere, run-length, held-next}
+use Rattle.course.proofs.Appends.{run-append, ticks-append, held-later, before-later}
 use Rattle.history.specs.History.{Act, Tick, Write, Read, Reset, act, acts, triggerBy, Quiet, ticksIn, until}
 use Rattle.history.specs.Triggers.{eventBy}
 use Rattle.history.specs.Countdowns.{justBefore}
-use Rattle.history.specs.Demand3.{sideAt, Demand3}
+use Rattle.history.specs.Demand3.{sideAt}
 use Rattle.history.proofs.Cards.{count-channels}
 use Rattle.history.proofs.Turns.{Turn, turn}
-use Rattle.history.proofs.Done.{Part, write-part}
+use Rattle.history.proofs.Parts.{Part, write-part}
 use Rattle.history.proofs.Manual.{manual-write}
 
 -- ---- acts without ticks, before other acts or after them

@@ -5,17 +5,16 @@ use mathlib.Core.Bool.{Bool, true, false, cond}
 use mathlib.Core.List.{List, [], _∷_}
 use Prim.Native.Nat.{ℕ, zero, suc, _+_, _<_}
 use native.Mathlib.Omega.{arith}
-use lib.Dec.{eqb, ltb}
-use lib.ListN.{length, getD, set}
+use lib.Dec.{eqb}
+use lib.ListN.{length, getD}
 use borrow.Author.Tests.{eq-eqb, ne-eqb, eqb-true, eqb-false}
 use Rattle.slots.specs.declared.Holder.{Holder}
 use Rattle.slots.specs.declared.Holder.the-variants.{Level, Nobody}
 use Rattle.slots.specs.Slots.{levelOf, holderOf, imageAt}
 use Rattle.slots.proofs.Holders.{level-held, nobody-if, holder-level}
 use Rattle.channel.specs.Channel.{word}
-use Rattle.channel.specs.declared.Channel.{Channel}
 use Rattle.card.specs.declared.Card.{Card}
-use Rattle.card.specs.Card.{State, state, channelOf, withChannel, withCount}
+use Rattle.card.specs.Card.{State, state, channelOf}
 use Rattle.card.specs.Trigger.{triggerOf, acceptedOf, onEvent}
 use Rattle.card.specs.Tick.{advanced}
 use Rattle.card.specs.Reset.{cardReset, resetOf}
@@ -29,7 +28,7 @@ use Rattle.history.proofs.Addresses.{clock-register, level-register, ev
 use Rattle.history.proofs.Cards.{channel-keeps, count-keeps}
 use Rattle.history.proofs.Effects.{passed-does}
 use Rattle.history.proofs.Writing.{write-by}
-use Rattle.history.proofs.Done.{none-first}
+use Rattle.history.proofs.Parts.{none-first}
 use Rattle.history.proofs.Manual.{manual-write}
 
 -- ---- the rule of clock events

@@ -1,11 +1,11 @@
 -- The words of a write are done one after the other until one is refused, and its number is the first of its cases (`written`). Whatever
 -- holds word by word of the words done holds of the write (`write-by`). Assumes nothing.
 use mathlib.Core.Path.{_≡_, refl, sym, ap, _∙_, subst}
-use mathlib.Core.Bool.{Bool, true, false, not, _||_, cond}
+use mathlib.Core.Bool.{Bool, true, false, not, cond}
 use mathlib.Core.List.{List, [], _∷_}
 use Prim.Native.Nat.{ℕ, zero, suc, _+_, _≤_, _<_}
 use native.Mathlib.Omega.{arith}
-use lib.Dec.{eqb, ltb}
+use lib.Dec.{ltb}
 use lib.ListN.{length, getD, take}
 use lib.Seq.{length-take-le, take-take, getD-take}
 use borrow.Author.Tests.{ltb-false, le-ltb}

@@ -53,11 +53,14 @@ abbrev pub byStart : List ℕ → List ℕ → ℕ → Channel → List Happenin
 byStart s l c ch = cond (eqb (word s (enableAt c)) 1) (sample l c ch (enter l (firstOf c) 0)) []
 
 -- 'a load reached by counting comes before that tick's sample, so the old ramp gives none then'
-abbrev pub byTick : Phase → List ℕ → List ℕ → ℕ → Channel → List Happening
-byTick Rest s l c ch = []
-byTick (Counting n older) s l c ch =
+abbrev pub inPhase : Phase → List ℕ → List ℕ → ℕ → Channel → List Happening
+inPhase Rest s l c ch = []
+inPhase (Counting n older) s l c ch =
     cond (eqb (n .0 - 1) 0) (byStart s l c ch) (cond (eqb (n .0 - 1) lead) (Load (loadedFor s c (ch .level)) ∷ []) (byRamp l c ch older))
-byTick (Running p t) s l c ch = byRamp l c ch (Going p t)
+inPhase (Running p t) s l c ch = byRamp l c ch (Going p t)
+
+abbrev pub byTick : List ℕ → List ℕ → ℕ → Channel → List Happening
+byTick s l c ch = inPhase (ch .phase) s l c ch
 
 -- ---- an act
 
@@ -76,7 +79,7 @@ byWords c a (v ∷ vs) = byWord c a v ++ byWords c (a + 1) vs
 
 abbrev pub happens : ℕ → State → Act → List Happening
 happens c st (Tick event) =
-    byTick (channelOf (st .card) c .phase) (st .settings) (st .tables) c (channelOf (st .card) c) ++ byTrigger (triggerBy st (Tick event)) (st .settings) c
+    byTick (st .settings) (st .tables) c (channelOf (st .card) c) ++ byTrigger (triggerBy st (Tick event)) (st .settings) c
 happens c st (Write start count ws) = byTrigger (triggerBy st (Write start count ws)) (st .settings) c ++ byWords c start (wordsDone st start count ws)
 happens c st (Read start count ws) = []
 happens c st Reset = Fresh ∷ []

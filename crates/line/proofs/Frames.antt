@@ -11,12 +11,8 @@ use lib.Seq.{sets, length-take-le}
 use Rattle.map.specs.declared.Found.{Found}
 use Rattle.map.specs.declared.Found.the-variants.{At, Nothing}
 use Rattle.map.specs.Map.{regionOf}
-use Rattle.slots.specs.declared.Holder.{Holder}
-use Rattle.slots.specs.declared.Holder.the-variants.{Level, Nobody}
 use Rattle.card.specs.declared.Card.{Card}
 use Rattle.card.specs.Card.{State}
-use Rattle.card.specs.Trigger.{triggerOf, acceptedOf, onEvent}
-use Rattle.card.specs.Tick.{advanced, tickWith}
 use Rattle.card.proofs.Ticks.{same-state}
 use Rattle.transfer.specs.declared.Answer.{Answer}
 use Rattle.transfer.specs.declared.Written.{Written}
