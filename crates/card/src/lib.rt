@@ -7,6 +7,7 @@ use channel::Shown;
 use slots::Holder;
 use word::Samples;
 ghost use mathlib.Core.Path.{_≡_};
+ghost use Rattle.word.specs.Lent.{lent, left};
 ghost use Rattle.card.specs.Card.{state, noChannel, channelOf, withChannel, countOf, withCount, withChannels};
 ghost use Rattle.card.specs.Trigger.{counted, struck, triggerOf, acceptedOf, eventOf};
 ghost use Rattle.card.specs.Tick.{moved, advanced, tickWith, ticks};
@@ -22,7 +23,7 @@ pub struct Card {
 
 // Settings, loaded tables and card after a reset.
 pub fn reset(settings: &mut [u16], tables: &mut [u16]) -> Card
-    ensures { λ r. ⌜ (r ≡ cardReset) × (now (settings .exit) ≡ settingsReset (now (settings .entry))) × (now (tables .exit) ≡ tablesReset (now (tables .entry))) ⌝ }
+    ensures { λ r. ⌜ (r ≡ cardReset) × (left settings ≡ settingsReset (lent settings)) × (left tables ≡ tablesReset (lent tables)) ⌝ }
 {
     reset_settings(settings);
     slots::fill(tables, 0, 512, 0);
@@ -31,7 +32,7 @@ pub fn reset(settings: &mut [u16], tables: &mut [u16]) -> Card
 
 // One tick: every channel moves on by a microsecond, then the event is taken. 0xFE is no event.
 pub fn tick(settings: &[u16], tables: &mut [u16], card: Card, event: u16) -> Card
-    ensures { λ r. ⌜ (r ≡ tickWith (state card (now (settings .entry)) (now (tables .entry))) event .card) × (now (tables .exit) ≡ tickWith (state card (now (settings .entry)) (now (tables .entry))) event .tables) ⌝ }
+    ensures { λ r. ⌜ (r ≡ tickWith (state card (lent settings) (lent tables)) event .card) × (left tables ≡ tickWith (state card (lent settings) (lent tables)) event .tables) ⌝ }
 {
     let k = advance(settings, tables, card);
     receive(settings, tables, k, event)
@@ -39,7 +40,7 @@ pub fn tick(settings: &[u16], tables: &mut [u16], card: Card, event: u16) -> Car
 
 // n ticks with no event.
 pub fn run(settings: &[u16], tables: &mut [u16], card: Card, n: u32) -> Card
-    ensures { λ r. ⌜ (r ≡ ticks n (state card (now (settings .entry)) (now (tables .entry))) .card) × (now (tables .exit) ≡ ticks n (state card (now (settings .entry)) (now (tables .entry))) .tables) ⌝ }
+    ensures { λ r. ⌜ (r ≡ ticks n (state card (lent settings) (lent tables)) .card) × (left tables ≡ ticks n (state card (lent settings) (lent tables)) .tables) ⌝ }
 {
     let mut k = card;
     let mut i: u32 = 0;
@@ -52,7 +53,7 @@ pub fn run(settings: &[u16], tables: &mut [u16], card: Card, n: u32) -> Card
 
 // An accepted trigger of a level: its count, every channel's countdown, then the level and event shown.
 pub fn trigger(settings: &[u16], tables: &mut [u16], card: Card, level: u16, event: u16) -> Card
-    ensures { λ r. ⌜ (r ≡ triggerOf (state card (now (settings .entry)) (now (tables .entry))) level event .card) × (now (tables .exit) ≡ triggerOf (state card (now (settings .entry)) (now (tables .entry))) level event .tables) ⌝ }
+    ensures { λ r. ⌜ (r ≡ triggerOf (state card (lent settings) (lent tables)) level event .card) × (left tables ≡ triggerOf (state card (lent settings) (lent tables)) level event .tables) ⌝ }
 {
     let mut k = count_trigger(strike(settings, tables, card, level), level);
     k.level = level;
@@ -102,7 +103,7 @@ pub fn with_count(card: Card, level: usize, n: u16) -> Card
 
 // Every channel one microsecond on.
 fn advance(settings: &[u16], tables: &mut [u16], card: Card) -> Card
-    ensures { λ r. ⌜ (r ≡ advanced (state card (now (settings .entry)) (now (tables .entry))) .card) × (now (tables .exit) ≡ advanced (state card (now (settings .entry)) (now (tables .entry))) .tables) ⌝ }
+    ensures { λ r. ⌜ (r ≡ advanced (state card (lent settings) (lent tables)) .card) × (left tables ≡ advanced (state card (lent settings) (lent tables)) .tables) ⌝ }
 {
     let a = channel::tick(settings, tables, 0, card.channels[0]);
     let b = channel::tick(settings, tables, 1, card.channels[1]);
@@ -119,7 +120,7 @@ fn advance(settings: &[u16], tables: &mut [u16], card: Card) -> Card
 
 // Every channel's countdown is set anew for a level.
 fn strike(settings: &[u16], tables: &mut [u16], card: Card, level: u16) -> Card
-    ensures { λ r. ⌜ (r ≡ withChannels card (struck (state card (now (settings .entry)) (now (tables .entry))) level .channels)) × (now (tables .exit) ≡ struck (state card (now (settings .entry)) (now (tables .entry))) level .tables) ⌝ }
+    ensures { λ r. ⌜ (r ≡ withChannels card (struck (state card (lent settings) (lent tables)) level .channels)) × (left tables ≡ struck (state card (lent settings) (lent tables)) level .tables) ⌝ }
 {
     let a = channel::trigger(settings, tables, 0, card.channels[0], level);
     let b = channel::trigger(settings, tables, 1, card.channels[1], level);
@@ -144,7 +145,7 @@ fn count_trigger(card: Card, level: u16) -> Card
 
 // The level of the accepted trigger that an event is, if it is one.
 fn accepted(settings: &[u16], event: u16) -> Holder
-    ensures { λ r. ⌜ r ≡ acceptedOf (now (settings .entry)) event ⌝ }
+    ensures { λ r. ⌜ r ≡ acceptedOf (lent settings) event ⌝ }
 {
     if event == 0xFE {
         return Holder::Nobody;
@@ -158,7 +159,7 @@ fn accepted(settings: &[u16], event: u16) -> Holder
 
 // An event received.
 fn receive(settings: &[u16], tables: &mut [u16], card: Card, event: u16) -> Card
-    ensures { λ r. ⌜ (r ≡ eventOf (state card (now (settings .entry)) (now (tables .entry))) event .card) × (now (tables .exit) ≡ eventOf (state card (now (settings .entry)) (now (tables .entry))) event .tables) ⌝ }
+    ensures { λ r. ⌜ (r ≡ eventOf (state card (lent settings) (lent tables)) event .card) × (left tables ≡ eventOf (state card (lent settings) (lent tables)) event .tables) ⌝ }
 {
     match accepted(settings, event) {
         Holder::Level(level) => trigger(settings, tables, card, level, event),
@@ -167,7 +168,7 @@ fn receive(settings: &[u16], tables: &mut [u16], card: Card, event: u16) -> Card
 }
 
 fn reset_settings(settings: &mut [u16])
-    ensures { λ _. ⌜ now (settings .exit) ≡ settingsReset (now (settings .entry)) ⌝ }
+    ensures { λ _. ⌜ left settings ≡ settingsReset (lent settings) ⌝ }
 {
     slots::fill(settings, 0, 16960, 0);
     slots::fill(settings, 0x0860, 32, 0x0100);

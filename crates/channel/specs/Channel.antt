@@ -1,10 +1,13 @@
 -- 'One tick, one microsecond': a channel's load, start, tick and trigger. Settings are the words by address; the loaded tables
 -- stand one after the other, 128 words a channel.
+use mathlib.Core.Path.{_≡_}
 use mathlib.Core.Bool.{Bool, true, false, cond}
 use mathlib.Core.List.{List}
 use Prim.Native.Nat.{ℕ, zero, suc, _+_, _*_, _-_, max}
 use lib.Dec.{eqb}
 use lib.ListN.{getD, set}
+use Rattle.word.specs.Word.{lasting}
+use Rattle.word.specs.Lent.{Lent, left}
 use Rattle.map.specs.Addresses.{tableAt, rampMapAt, scaleMapAt, scaleAt, offsetMapAt, offsetAt, delayAt, enableAt}
 use Rattle.channel.specs.declared.Shown.{Shown}
 use Rattle.channel.specs.declared.Loaded.{Loaded}
@@ -32,6 +35,10 @@ pub record Side : Type 0 where
 abbrev pub side : Channel → List ℕ → Side
 side ch l = record { channel = ch; tables = l }
 
+-- the channel handed back and the tables left are those of a side
+abbrev pub Leaves : Side → Channel → Lent → Type 0
+Leaves x ch tables = (ch ≡ x .channel) × (left tables ≡ x .tables)
+
 abbrev pub with : Channel → Phase → Shown → Channel
 with ch p s = record { phase = p; level = ch .level; loaded = ch .loaded; shown = s }
 
@@ -40,16 +47,20 @@ with ch p s = record { phase = p; level = ch .level; loaded = ch .loaded; shown 
 abbrev pub rampOf : Phase → Ramp
 rampOf Rest = Still
 rampOf (Counting n older) = older
-rampOf (Running p t) = Going p t
+rampOf (Running w) = Going w
 
 abbrev pub phaseOf : Ramp → Phase
 phaseOf Still = Rest
-phaseOf (Going p t) = Running p t
+phaseOf (Going w) = Running w
+
+-- the channel after its ramp has moved
+abbrev pub movedOn : Channel → Moved → Channel
+movedOn ch m = with ch (phaseOf (m .ramp)) (m .shown)
 
 -- 'while a ramp runs': running, or counting with an older ramp still running
 abbrev pub going : Ramp → Bool
 going Still = false
-going (Going p t) = true
+going (Going w) = true
 
 abbrev pub runsOf : Channel → Bool
 runsOf ch = going (rampOf (ch .phase))
@@ -87,11 +98,12 @@ load s l c ch level =
 
 -- ---- the start
 
--- 'at countdown 0 the ramp starts if A00 is 1; otherwise nothing starts'
+-- 'at countdown 0 the ramp starts if A00 is 1; otherwise nothing starts'; 'samples come at the start and every 10 ticks'
 unfoldable pub start : List ℕ → List ℕ → ℕ → Channel → Channel
 start s l c ch =
-    let m : Moved = given l (firstOf c) (ch .loaded) (enter l (firstOf c) 0) (ch .shown) in
-    cond (eqb (word s (enableAt c)) 1) (with ch (phaseOf (m .ramp)) (m .shown)) (with ch Rest (ch .shown))
+    cond (eqb (word s (enableAt c)) 1)
+    (movedOn ch (given l (firstOf c) (ch .loaded) (lasting 1) (enter l (firstOf c) 0) (ch .shown)))
+    (with ch Rest (ch .shown))
 
 -- ---- one tick
 
@@ -106,9 +118,7 @@ countTo m older s l c ch =
 unfoldable pub tickAt : Phase → List ℕ → List ℕ → ℕ → Channel → Side
 tickAt Rest s l c ch = side ch l
 tickAt (Counting n older) s l c ch = countTo (n .0 - 1) older s l c ch
-tickAt (Running p t) s l c ch =
-    let m : Moved = advance l (firstOf c) (ch .loaded) (Going p t) (ch .shown) in
-    side (with ch (phaseOf (m .ramp)) (m .shown)) l
+tickAt (Running w) s l c ch = side (movedOn ch (advance l (firstOf c) (ch .loaded) (Going w) (ch .shown))) l
 
 abbrev pub tickOf : List ℕ → List ℕ → ℕ → Channel → Side
 tickOf s l c ch = tickAt (ch .phase) s l c ch

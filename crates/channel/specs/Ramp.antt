@@ -3,13 +3,14 @@ use mathlib.Core.Bool.{cond}
 use mathlib.Core.List.{List}
 use Prim.Native.Nat.{ℕ, _+_, _-_}
 use lib.Dec.{ltb, eqb}
-use Rattle.word.specs.Word.{grown, lasting}
+use Rattle.word.specs.Word.{grown}
 use Rattle.word.specs.Table.{valueAt, stepAt, isEnd}
 use Rattle.sum.specs.declared.Sum.{Sum}
 use Rattle.sum.specs.declared.Sum.the-variants.{Word, Overflow}
 use Rattle.sum.specs.Sample.{sampleOf}
 use Rattle.channel.specs.declared.Place.{Place}
 use Rattle.channel.specs.declared.Shown.{Shown}
+use Rattle.channel.specs.declared.Way.{Way}
 use Rattle.channel.specs.declared.Loaded.{Loaded}
 use Rattle.channel.specs.declared.Moved.{Moved}
 use Rattle.channel.specs.declared.Ramp.{Ramp}
@@ -42,12 +43,18 @@ put Overflow p s = record { output = s .output; place = p; overflow = grown (s .
 abbrev pub give : List ℕ → ℕ → Loaded → Place → Shown → Shown
 give w first l p s = put (sampleAt w first l p) p s
 
--- the sample is given; at the end point the ramp rests, elsewhere the next comes one sample's time later
-unfoldable pub given : List ℕ → ℕ → Loaded → Place → Shown → Moved
-given w first l p s = record { ramp = cond (eqb (p .left .0) 0) Still (Going p (record { 0 = lasting 1 })); shown = give w first l p s }
+-- a ramp on its way: the last sample's place, the microseconds to the next sample, and those from one sample to the next
+abbrev pub way : Place → ℕ → ℕ → Way
+way p wait period = record { place = p; wait = record { 0 = wait }; period = record { 0 = period } }
+
+-- the sample is given; at the end point the ramp rests, elsewhere the next comes a period later
+unfoldable pub given : List ℕ → ℕ → Loaded → ℕ → Place → Shown → Moved
+given w first l period p s = record { ramp = cond (eqb (p .left .0) 0) Still (Going (way p period period)); shown = give w first l p s }
 
 -- one tick of a ramp
 unfoldable pub advance : List ℕ → ℕ → Loaded → Ramp → Shown → Moved
 advance w first l Still s = record { ramp = Still; shown = s }
-advance w first l (Going p t) s =
-    cond (ltb 1 (t .0)) (record { ramp = Going p (record { 0 = t .0 - 1 }); shown = s }) (given w first l (next w first p) s)
+advance w first l (Going r) s =
+    cond (ltb 1 (r .wait .0))
+    (record { ramp = Going (way (r .place) (r .wait .0 - 1) (r .period .0)); shown = s })
+    (given w first l (r .period .0) (next w first (r .place)) s)

@@ -5,8 +5,9 @@ use word::Micros;
 use word::Samples;
 ghost use mathlib.Core.Path.{_≡_};
 ghost use Prim.Native.Nat.{_+_, _*_, _-_};
+ghost use Rattle.word.specs.Lent.{lent, left};
 ghost use Rattle.channel.specs.Ramp.{enter, next, sampleAt, put, given, advance};
-ghost use Rattle.channel.specs.Channel.{word, firstOf, with, rampOf, phaseOf, runsOf, copied, loadedFor, load, start, countTo, tickOf, triggered, resetChannel};
+ghost use Rattle.channel.specs.Channel.{word, firstOf, Leaves, with, movedOn, rampOf, phaseOf, runsOf, copied, loadedFor, load, start, countTo, tickOf, triggered, resetChannel};
 
 // A sample's place in its table: the segment, and the samples left in it. None are left at the end point.
 pub struct Place {
@@ -21,17 +22,24 @@ pub struct Shown {
     pub overflow: u16,
 }
 
-// A ramp: none, or the last sample's place and the microseconds to the next sample.
+// A ramp on its way: the last sample's place, the microseconds to the next sample, and those from one sample to the next.
+pub struct Way {
+    pub place: Place,
+    pub wait: Micros,
+    pub period: Micros,
+}
+
+// A ramp: none, or one on its way.
 pub enum Ramp {
     Still,
-    Going(Place, Micros),
+    Going(Way),
 }
 
 // At rest, counting toward a load or a start with an older ramp perhaps still running, or running.
 pub enum Phase {
     Rest,
     Counting(Micros, Ramp),
-    Running(Place, Micros),
+    Running(Way),
 }
 
 // What a load copies, beside the table's words.
@@ -56,20 +64,26 @@ pub struct Moved {
 }
 
 // One microsecond of channel c.
-pub fn tick(settings: &[u16], tables: &mut [u16], c: u16, ch: Channel) -> Channel
-    ensures { λ r. ⌜ (r ≡ tickOf (now (settings .entry)) (now (tables .entry)) c ch .channel) × (now (tables .exit) ≡ tickOf (now (settings .entry)) (now (tables .entry)) c ch .tables) ⌝ }
+pub fn tick(settings: &[u16; 16960], tables: &mut [u16; 512], c: u16, ch: Channel) -> Channel
+    ensures { λ r. ⌜ Leaves (tickOf (lent settings) (lent tables) c ch) r tables ⌝ }
 {
     let p = ch.phase;
     match p {
         Phase::Rest => ch,
         Phase::Counting(n, older) => count(settings, tables, c, ch, n, older),
-        Phase::Running(q, t) => run(tables, c, ch, q, t),
+        Phase::Running(w) => run(tables, c, ch, w),
     }
 }
 
 // A trigger of a level reaches channel c, enabled or not.
-pub fn trigger(settings: &[u16], tables: &mut [u16], c: u16, ch: Channel, level: u16) -> Channel
-    ensures { λ r. ⌜ (r ≡ triggered (now (settings .entry)) (now (tables .entry)) c ch level .channel) × (now (tables .exit) ≡ triggered (now (settings .entry)) (now (tables .entry)) c ch level .tables) ⌝ }
+pub fn trigger(
+    settings: &[u16; 16960],
+    tables: &mut [u16; 512],
+    c: u16,
+    ch: Channel,
+    level: u16,
+) -> Channel
+    ensures { λ r. ⌜ Leaves (triggered (lent settings) (lent tables) c ch level) r tables ⌝ }
 {
     let d = word_at(settings, c, 0x8E0, level);
     if d <= 10 {
@@ -93,7 +107,7 @@ pub fn runs(ch: Channel) -> bool
     let p = ch.phase;
     match older_ramp(p) {
         Ramp::Still => false,
-        Ramp::Going(_, _) => true,
+        Ramp::Going(_) => true,
     }
 }
 
@@ -127,7 +141,7 @@ fn older_ramp(p: Phase) -> Ramp
     match p {
         Phase::Rest => Ramp::Still,
         Phase::Counting(_, older) => older,
-        Phase::Running(q, t) => Ramp::Going(q, t),
+        Phase::Running(w) => Ramp::Going(w),
     }
 }
 
@@ -136,7 +150,7 @@ fn ramp_phase(r: Ramp) -> Phase
 {
     match r {
         Ramp::Still => Phase::Rest,
-        Ramp::Going(q, t) => Phase::Running(q, t),
+        Ramp::Going(w) => Phase::Running(w),
     }
 }
 
@@ -154,12 +168,12 @@ fn in_phase(ch: Channel, p: Phase, s: Shown) -> Channel
 }
 
 // The channel after one tick of its ramp.
-fn run(tables: &[u16], c: u16, ch: Channel, q: Place, t: Micros) -> Channel
-    ensures { λ r. ⌜ r ≡ with ch (phaseOf (advance (now (tables .entry)) (firstOf c) (ch .loaded) (Ramp.Going q t) (ch .shown) .ramp)) (advance (now (tables .entry)) (firstOf c) (ch .loaded) (Ramp.Going q t) (ch .shown) .shown) ⌝ }
+fn run(tables: &[u16], c: u16, ch: Channel, w: Way) -> Channel
+    ensures { λ r. ⌜ r ≡ movedOn ch (advance (lent tables) (firstOf c) (ch .loaded) (Ramp.Going w) (ch .shown)) ⌝ }
 {
     let loaded = ch.loaded;
     let shown = ch.shown;
-    let m = step(tables, c, loaded, Ramp::Going(q, t), shown);
+    let m = step(tables, c, loaded, Ramp::Going(w), shown);
     let ramp = m.ramp;
     let after = m.shown;
     in_phase(ch, ramp_phase(ramp), after)
@@ -174,7 +188,7 @@ fn count(
     n: Micros,
     older: Ramp,
 ) -> Channel
-    ensures { λ r. ⌜ (r ≡ countTo (n .0 - 1) older (now (settings .entry)) (now (tables .entry)) c ch .channel) × (now (tables .exit) ≡ countTo (n .0 - 1) older (now (settings .entry)) (now (tables .entry)) c ch .tables) ⌝ }
+    ensures { λ r. ⌜ Leaves (countTo (n .0 - 1) older (lent settings) (lent tables) c ch) r tables ⌝ }
 {
     let d = n.0;
     if d <= 1 {
@@ -193,7 +207,7 @@ fn count(
 
 // The load for a level: an older ramp is aborted, its output held, and the settings are copied.
 fn load_level(settings: &[u16], tables: &mut [u16], c: u16, ch: Channel, level: u16) -> Channel
-    ensures { λ r. ⌜ (r ≡ load (now (settings .entry)) (now (tables .entry)) c ch level .channel) × (now (tables .exit) ≡ load (now (settings .entry)) (now (tables .entry)) c ch level .tables) ⌝ }
+    ensures { λ r. ⌜ Leaves (load (lent settings) (lent tables) c ch level) r tables ⌝ }
 {
     let loaded = settings_for(settings, c, level);
     copy_table(settings, tables, c, loaded.table);
@@ -215,7 +229,7 @@ fn load_level(settings: &[u16], tables: &mut [u16], c: u16, ch: Channel, level: 
 
 // Table number, scale factor and offset that the maps give a level.
 fn settings_for(settings: &[u16], c: u16, level: u16) -> Loaded
-    ensures { λ r. ⌜ r ≡ loadedFor (now (settings .entry)) c level ⌝ }
+    ensures { λ r. ⌜ r ≡ loadedFor (lent settings) c level ⌝ }
 {
     let table = word_at(settings, c, 0x800, level);
     let scale_entry = word_at(settings, c, 0x840, level);
@@ -229,7 +243,7 @@ fn settings_for(settings: &[u16], c: u16, level: u16) -> Loaded
 
 // The 128 words of table r of channel c, copied to the channel's loaded table.
 fn copy_table(settings: &[u16], tables: &mut [u16], c: u16, r: u16)
-    ensures { λ _. ⌜ now (tables .exit) ≡ copied 128 (now (settings .entry)) (c * 0x1000 + 128 * r) (now (tables .entry)) (firstOf c) ⌝ }
+    ensures { λ _. ⌜ left tables ≡ copied 128 (lent settings) (c * 0x1000 + 128 * r) (lent tables) (firstOf c) ⌝ }
 {
     let from = (c as usize) * 0x1000 + 128 * (r as usize);
     let to = 128 * (c as usize);
@@ -242,7 +256,7 @@ fn copy_table(settings: &[u16], tables: &mut [u16], c: u16, r: u16)
 
 // The word of channel c at an offset from its base, and an index past that.
 fn word_at(settings: &[u16], c: u16, offset: u16, index: u16) -> u16
-    ensures { λ r. ⌜ r ≡ word (now (settings .entry)) (c * 0x1000 + offset + index) ⌝ }
+    ensures { λ r. ⌜ r ≡ word (lent settings) (c * 0x1000 + offset + index) ⌝ }
 {
     word::get(
         settings,
@@ -252,12 +266,19 @@ fn word_at(settings: &[u16], c: u16, offset: u16, index: u16) -> u16
 
 // At countdown 0: the ramp starts if the waveform is enabled.
 fn start_ramp(settings: &[u16], tables: &[u16], c: u16, ch: Channel) -> Channel
-    ensures { λ r. ⌜ r ≡ start (now (settings .entry)) (now (tables .entry)) c ch ⌝ }
+    ensures { λ r. ⌜ r ≡ start (lent settings) (lent tables) c ch ⌝ }
 {
     let loaded = ch.loaded;
     let shown = ch.shown;
     if word::get(settings, (c as usize) * 0x1000 + 0xA00) == 1 {
-        let m = sample_given(tables, c, loaded, point(tables, c, 0), shown);
+        let m = sample_given(
+            tables,
+            c,
+            loaded,
+            Samples(1).micros(),
+            point(tables, c, 0),
+            shown,
+        );
         let ramp = m.ramp;
         let after = m.shown;
         return in_phase(ch, ramp_phase(ramp), after);
@@ -267,29 +288,42 @@ fn start_ramp(settings: &[u16], tables: &[u16], c: u16, ch: Channel) -> Channel
 
 // One tick of a ramp.
 fn step(tables: &[u16], c: u16, loaded: Loaded, ramp: Ramp, shown: Shown) -> Moved
-    ensures { λ r. ⌜ r ≡ advance (now (tables .entry)) (firstOf c) loaded ramp shown ⌝ }
+    ensures { λ r. ⌜ r ≡ advance (lent tables) (firstOf c) loaded ramp shown ⌝ }
 {
     match ramp {
         Ramp::Still => Moved {
             ramp: Ramp::Still,
             shown: shown,
         },
-        Ramp::Going(p, t) => {
-            let wait = t.0;
+        Ramp::Going(w) => {
+            let p = w.place;
+            let wait = w.wait.0;
+            let period = w.period;
             if 1 < wait {
                 return Moved {
-                    ramp: Ramp::Going(p, Micros(wait - 1)),
+                    ramp: Ramp::Going(Way {
+                        place: p,
+                        wait: Micros(wait - 1),
+                        period: period,
+                    }),
                     shown: shown,
                 };
             }
-            sample_given(tables, c, loaded, next_place(tables, c, p), shown)
+            sample_given(tables, c, loaded, period, next_place(tables, c, p), shown)
         }
     }
 }
 
-// The sample at a place is given; at the end point the ramp rests.
-fn sample_given(tables: &[u16], c: u16, loaded: Loaded, p: Place, shown: Shown) -> Moved
-    ensures { λ r. ⌜ r ≡ given (now (tables .entry)) (firstOf c) loaded p shown ⌝ }
+// The sample at a place is given; at the end point the ramp rests, elsewhere the next sample comes a period later.
+fn sample_given(
+    tables: &[u16],
+    c: u16,
+    loaded: Loaded,
+    period: Micros,
+    p: Place,
+    shown: Shown,
+) -> Moved
+    ensures { λ r. ⌜ r ≡ given (lent tables) (firstOf c) loaded (period .0) p shown ⌝ }
 {
     let after = shown_after(sample_at(tables, c, loaded, p), p, shown);
     let left = p.left;
@@ -300,7 +334,11 @@ fn sample_given(tables: &[u16], c: u16, loaded: Loaded, p: Place, shown: Shown) 
         };
     }
     Moved {
-        ramp: Ramp::Going(p, Samples(1).micros()),
+        ramp: Ramp::Going(Way {
+            place: p,
+            wait: period,
+            period: period,
+        }),
         shown: after,
     }
 }
@@ -325,7 +363,7 @@ fn shown_after(sum: Sum, p: Place, shown: Shown) -> Shown
 
 // The sample at a place.
 fn sample_at(tables: &[u16], c: u16, loaded: Loaded, p: Place) -> Sum
-    ensures { λ r. ⌜ r ≡ sampleAt (now (tables .entry)) (firstOf c) loaded p ⌝ }
+    ensures { λ r. ⌜ r ≡ sampleAt (lent tables) (firstOf c) loaded p ⌝ }
 {
     let n = p.segment as usize;
     let left = p.left;
@@ -348,7 +386,7 @@ fn sample_at(tables: &[u16], c: u16, loaded: Loaded, p: Place) -> Sum
 
 // The place of the sample after the one at p.
 fn next_place(tables: &[u16], c: u16, p: Place) -> Place
-    ensures { λ r. ⌜ r ≡ next (now (tables .entry)) (firstOf c) p ⌝ }
+    ensures { λ r. ⌜ r ≡ next (lent tables) (firstOf c) p ⌝ }
 {
     let left = p.left;
     let m = left.0;
@@ -363,7 +401,7 @@ fn next_place(tables: &[u16], c: u16, p: Place) -> Place
 
 // The place of the sample at point n.
 fn point(tables: &[u16], c: u16, n: u16) -> Place
-    ensures { λ r. ⌜ r ≡ enter (now (tables .entry)) (firstOf c) n ⌝ }
+    ensures { λ r. ⌜ r ≡ enter (lent tables) (firstOf c) n ⌝ }
 {
     let first = 128 * (c as usize);
     let step = Samples(word::get(tables, first + 2 * (n as usize) + 1));

@@ -5,6 +5,7 @@ ghost use mathlib.Core.List.{[]};
 ghost use Prim.Native.Nat.{_+_, _*_, _^_, _≤_, _<_, min};
 ghost use lib.ListN.{set, take, length, getD, replicate};
 ghost use lib.Seq.{sets};
+ghost use Rattle.word.specs.Lent.{lent, left};
 ghost use Rattle.card.specs.Card.{state, channelOf};
 ghost use Rattle.card.specs.Reset.{settingsReset, tablesReset, cardReset};
 ghost use Rattle.transfer.specs.Transfer.{readOf};
@@ -38,7 +39,7 @@ pub struct Stream {
 
 // The reset card on which a session starts.
 pub fn start(settings: &mut [u16], tables: &mut [u16]) -> Card
-    ensures { λ r. ⌜ (r ≡ cardReset) × (now (settings .exit) ≡ settingsReset (now (settings .entry))) × (now (tables .exit) ≡ tablesReset (now (tables .entry))) ⌝ }
+    ensures { λ r. ⌜ (r ≡ cardReset) × (left settings ≡ settingsReset (lent settings)) × (left tables ≡ tablesReset (lent tables)) ⌝ }
 {
     card::reset(settings, tables)
 }
@@ -53,7 +54,7 @@ pub fn feed(
     held: usize,
     chunk: &[u8],
 ) -> Stream
-    ensures { λ r. ⌜ Fed (opened card (now (settings .entry)) (now (tables .entry)) (now (line .entry)) held) (now (chunk .entry)) (now (out .entry)) (now (out .exit)) (now (settings .exit)) (now (tables .exit)) (now (line .exit)) r ⌝ }
+    ensures { λ r. ⌜ Fed (opened card (lent settings) (lent tables) (lent line) held) (lent chunk) (lent out) (left out) (left settings) (left tables) (left line) r ⌝ }
 {
     let mut k = card;
     let mut h = least(held, 263);
@@ -86,7 +87,7 @@ pub fn finish(
     card: Card,
     held: usize,
 ) -> Stream
-    ensures { λ r. ⌜ Finished (opened card (now (settings .entry)) (now (tables .entry)) (now (line .entry)) held) (now (out .entry)) (now (out .exit)) (now (settings .exit)) (now (tables .exit)) (now (line .entry)) r ⌝ }
+    ensures { λ r. ⌜ Finished (opened card (lent settings) (lent tables) (lent line) held) (lent out) (left out) (left settings) (left tables) (lent line) r ⌝ }
 {
     let h = least(held, 263);
     if h == 0 {
@@ -101,7 +102,7 @@ pub fn finish(
 
 // The frame that a line is: its first byte names it.
 pub fn parse(s: &[u8]) -> Frame
-    ensures { λ r. ⌜ r ≡ frameOf (now (s .entry)) ⌝ }
+    ensures { λ r. ⌜ r ≡ frameOf (lent s) ⌝ }
 {
     if !all_digits(s) {
         return Frame::Bad;
@@ -140,7 +141,7 @@ fn end_line(
     at: usize,
 ) -> Answered
     requires { ⌜ at < 2 ^ 63 ⌝ }
-    ensures { λ r. ⌜ Feeds (ended (flow (state card (now (settings .entry)) (now (tables .entry))) (now (line .entry)) held [])) at (now (out .entry)) (now (out .exit)) (now (settings .exit)) (now (tables .exit)) (now (line .entry)) (r .card) 0 (r .end) ⌝ }
+    ensures { λ r. ⌜ Feeds (ended (flow (state card (lent settings) (lent tables)) (lent line) held [])) at (lent out) (left out) (left settings) (left tables) (lent line) (r .card) 0 (r .end) ⌝ }
     ensures { λ r. ⌜ r .end ≤ at + 265 ⌝ }
 {
     let n = least(held, line.len());
@@ -157,7 +158,7 @@ fn end_line(
 // A line goes on: the byte is kept while there is room, and how many are held then.
 fn keep(line: &mut [u8], held: usize, b: u8) -> usize
     requires { ⌜ held ≤ 263 ⌝ }
-    ensures { λ r. ⌜ Keeps (now (line .entry)) held b (now (line .exit)) r ⌝ }
+    ensures { λ r. ⌜ Keeps (lent line) held b (left line) r ⌝ }
 {
     if held < 263 {
         put(line, held, b);
@@ -186,7 +187,7 @@ fn answer(
     at: usize,
 ) -> Answered
     requires { ⌜ at < 2 ^ 63 ⌝ }
-    ensures { λ r. ⌜ Answers (stepOf (state card (now (settings .entry)) (now (tables .entry))) (now (line .entry))) at (now (out .entry)) (now (out .exit)) (now (settings .exit)) (now (tables .exit)) r ⌝ }
+    ensures { λ r. ⌜ Answers (stepOf (state card (lent settings) (lent tables)) (lent line)) at (lent out) (left out) (left settings) (left tables) r ⌝ }
 {
     match parse(line) {
         Frame::Write { start, count } => answer_write(
@@ -224,7 +225,7 @@ fn answer_write(
     at: usize,
 ) -> Answered
     requires { ⌜ (at < 2 ^ 63) × (count ≤ 64) ⌝ }
-    ensures { λ r. ⌜ Answers (onFrame (state card (now (settings .entry)) (now (tables .entry))) (now (line .entry)) (Frame.Write start count)) at (now (out .entry)) (now (out .exit)) (now (settings .exit)) (now (tables .exit)) r ⌝ }
+    ensures { λ r. ⌜ Answers (onFrame (state card (lent settings) (lent tables)) (lent line) (Frame.Write start count)) at (lent out) (left out) (left settings) (left tables) r ⌝ }
 {
     let mut buffer = [0u16; 64];
     words(line, count, &mut buffer);
@@ -254,7 +255,7 @@ fn answer_read(
     at: usize,
 ) -> usize
     requires { ⌜ (at < 2 ^ 63) × (count ≤ 64) ⌝ }
-    ensures { λ r. ⌜ Puts (readText (readOf (now (settings .entry)) card start count (replicate 64 0))) at (now (out .entry)) (now (out .exit)) r ⌝ }
+    ensures { λ r. ⌜ Puts (readText (readOf (lent settings) card start count (replicate 64 0))) at (lent out) (left out) r ⌝ }
 {
     let mut buffer = [0u16; 64];
     let answer = transfer::read(settings, card, start, count, &mut buffer);
@@ -275,7 +276,7 @@ fn answer_ticks(
     at: usize,
 ) -> Answered
     requires { ⌜ at < 2 ^ 63 ⌝ }
-    ensures { λ r. ⌜ Answers (onFrame (state card (now (settings .entry)) (now (tables .entry))) (now (line .entry)) (Frame.Ticks n)) at (now (out .entry)) (now (out .exit)) (now (settings .entry)) (now (tables .exit)) r ⌝ }
+    ensures { λ r. ⌜ Answers (onFrame (state card (lent settings) (lent tables)) (lent line) (Frame.Ticks n)) at (lent out) (left out) (lent settings) (left tables) r ⌝ }
 {
     let k = card::run(settings, tables, card, n as u32);
     let end = put_outputs(k, 0x83, out, at);
@@ -293,7 +294,7 @@ fn answer_event(
     at: usize,
 ) -> Answered
     requires { ⌜ at < 2 ^ 63 ⌝ }
-    ensures { λ r. ⌜ Answers (onFrame (state card (now (settings .entry)) (now (tables .entry))) (now (line .entry)) (Frame.Event e)) at (now (out .entry)) (now (out .exit)) (now (settings .entry)) (now (tables .exit)) r ⌝ }
+    ensures { λ r. ⌜ Answers (onFrame (state card (lent settings) (lent tables)) (lent line) (Frame.Event e)) at (lent out) (left out) (lent settings) (left tables) r ⌝ }
 {
     let k = card::tick(settings, tables, card, e);
     let end = put_outputs(k, 0x84, out, at);
@@ -303,7 +304,7 @@ fn answer_event(
 // FF: the line is no frame.
 fn answer_bad(card: Card, out: &mut [u8], at: usize) -> Answered
     requires { ⌜ at < 2 ^ 63 ⌝ }
-    ensures { λ r. ⌜ (r .card ≡ card) × Puts (hex2 0xFF) at (now (out .entry)) (now (out .exit)) (r .end) ⌝ }
+    ensures { λ r. ⌜ (r .card ≡ card) × Puts (hex2 0xFF) at (lent out) (left out) (r .end) ⌝ }
 {
     put2(out, at, 0xFF);
     Answered {
@@ -315,7 +316,7 @@ fn answer_bad(card: Card, out: &mut [u8], at: usize) -> Answered
 // The name and the four outputs.
 fn put_outputs(card: Card, name: usize, out: &mut [u8], at: usize) -> usize
     requires { ⌜ at < 2 ^ 63 ⌝ }
-    ensures { λ r. ⌜ Puts (outputsText name card) at (now (out .entry)) (now (out .exit)) r ⌝ }
+    ensures { λ r. ⌜ Puts (outputsText name card) at (lent out) (left out) r ⌝ }
 {
     put2(out, at, name);
     let o = outputs(card);
@@ -346,7 +347,7 @@ fn output(card: Card, c: usize) -> u16
 // The head of a transfer's answer: its name, the number, the words processed.
 fn put_head(out: &mut [u8], at: usize, name: usize, number: u16, processed: usize)
     requires { ⌜ at < 2 ^ 63 ⌝ }
-    ensures { λ _. ⌜ now (out .exit) ≡ sets (now (out .entry)) at (headOf name number processed) ⌝ }
+    ensures { λ _. ⌜ left out ≡ sets (lent out) at (headOf name number processed) ⌝ }
 {
     put2(out, at, name);
     put2(out, at + 2, wide(number));
@@ -356,7 +357,7 @@ fn put_head(out: &mut [u8], at: usize, name: usize, number: u16, processed: usiz
 // The first n words, one after the other.
 fn put_words(out: &mut [u8], at: usize, words: &[u16], n: usize)
     requires { ⌜ (at < 2 ^ 63 + 1000) × (n ≤ length (now words)) × (n ≤ 64) ⌝ }
-    ensures { λ _. ⌜ now (out .exit) ≡ sets (now (out .entry)) at (hexAll (take n (now (words .entry)))) ⌝ }
+    ensures { λ _. ⌜ left out ≡ sets (lent out) at (hexAll (take n (lent words))) ⌝ }
 {
     let mut i: usize = 0;
     while i < n {
@@ -368,7 +369,7 @@ fn put_words(out: &mut [u8], at: usize, words: &[u16], n: usize)
 // Four digits.
 fn put4(out: &mut [u8], at: usize, x: usize)
     requires { ⌜ at < 2 ^ 63 + 2000 ⌝ }
-    ensures { λ _. ⌜ now (out .exit) ≡ sets (now (out .entry)) at (hex4 x) ⌝ }
+    ensures { λ _. ⌜ left out ≡ sets (lent out) at (hex4 x) ⌝ }
 {
     put2(out, at, x / 256);
     put2(out, at + 2, x);
@@ -377,7 +378,7 @@ fn put4(out: &mut [u8], at: usize, x: usize)
 // Two digits.
 fn put2(out: &mut [u8], at: usize, x: usize)
     requires { ⌜ at < 2 ^ 63 + 3000 ⌝ }
-    ensures { λ _. ⌜ now (out .exit) ≡ sets (now (out .entry)) at (hex2 x) ⌝ }
+    ensures { λ _. ⌜ left out ≡ sets (lent out) at (hex2 x) ⌝ }
 {
     put(out, at, digit(x / 16 % 16));
     put(out, at + 1, digit(x % 16));
@@ -397,7 +398,7 @@ fn digit(n: usize) -> u8
 
 // Stores a byte at a place of lent bytes; past their end nothing is stored.
 fn put(out: &mut [u8], at: usize, b: u8)
-    ensures { λ _. ⌜ now (out .exit) ≡ set (now (out .entry)) at b ⌝ }
+    ensures { λ _. ⌜ left out ≡ set (lent out) at b ⌝ }
 {
     if at < out.len() {
         out[at] = b;
@@ -408,7 +409,7 @@ fn put(out: &mut [u8], at: usize, b: u8)
 
 // 01, a start, 0 to 64 words.
 fn write_frame(s: &[u8]) -> Frame
-    ensures { λ r. ⌜ r ≡ writeFrame (now (s .entry)) ⌝ }
+    ensures { λ r. ⌜ r ≡ writeFrame (lent s) ⌝ }
 {
     let n = s.len();
     if n < 6 {
@@ -429,7 +430,7 @@ fn write_frame(s: &[u8]) -> Frame
 
 // 02, a start, a count up to 64.
 fn read_frame(s: &[u8]) -> Frame
-    ensures { λ r. ⌜ r ≡ readFrame (now (s .entry)) ⌝ }
+    ensures { λ r. ⌜ r ≡ readFrame (lent s) ⌝ }
 {
     let n = s.len();
     if n != 10 {
@@ -447,7 +448,7 @@ fn read_frame(s: &[u8]) -> Frame
 
 // 03, a number of ticks.
 fn ticks_frame(s: &[u8]) -> Frame
-    ensures { λ r. ⌜ r ≡ ticksFrame (now (s .entry)) ⌝ }
+    ensures { λ r. ⌜ r ≡ ticksFrame (lent s) ⌝ }
 {
     let n = s.len();
     if n != 6 {
@@ -458,7 +459,7 @@ fn ticks_frame(s: &[u8]) -> Frame
 
 // 04, an event.
 fn event_frame(s: &[u8]) -> Frame
-    ensures { λ r. ⌜ r ≡ eventFrame (now (s .entry)) ⌝ }
+    ensures { λ r. ⌜ r ≡ eventFrame (lent s) ⌝ }
 {
     let n = s.len();
     if n != 4 {
@@ -470,7 +471,7 @@ fn event_frame(s: &[u8]) -> Frame
 // The first n words of a write frame.
 fn words(s: &[u8], n: usize, words: &mut [u16; 64])
     requires { ⌜ n ≤ 64 ⌝ }
-    ensures { λ _. ⌜ now (words .exit) ≡ sets (now (words .entry)) 0 (wordsOf n (now (s .entry))) ⌝ }
+    ensures { λ _. ⌜ left words ≡ sets (lent words) 0 (wordsOf n (lent s)) ⌝ }
 {
     let mut i: usize = 0;
     while i < n {
@@ -483,7 +484,7 @@ fn words(s: &[u8], n: usize, words: &mut [u16; 64])
 
 // Every byte is a digit.
 fn all_digits(s: &[u8]) -> bool
-    ensures { λ r. ⌜ r ≡ allDigits (now (s .entry)) ⌝ }
+    ensures { λ r. ⌜ r ≡ allDigits (lent s) ⌝ }
 {
     let mut i = 0;
     while i < s.len() {
@@ -498,7 +499,7 @@ fn all_digits(s: &[u8]) -> bool
 // The four digits from place i on.
 fn word_at(s: &[u8], i: usize) -> u16
     requires { ⌜ i < 900 ⌝ }
-    ensures { λ r. ⌜ r ≡ wordAt (now (s .entry)) i ⌝ }
+    ensures { λ r. ⌜ r ≡ wordAt (lent s) i ⌝ }
 {
     byte_at(s, i) * 256 + byte_at(s, i + 2)
 }
@@ -506,7 +507,7 @@ fn word_at(s: &[u8], i: usize) -> u16
 // The two digits from place i on.
 fn byte_at(s: &[u8], i: usize) -> u16
     requires { ⌜ i < 1000 ⌝ }
-    ensures { λ r. ⌜ (r ≡ byteAt (now (s .entry)) i) × (r < 256) ⌝ }
+    ensures { λ r. ⌜ (r ≡ byteAt (lent s) i) × (r < 256) ⌝ }
 {
     value(get(s, i)) * 16 + value(get(s, i + 1))
 }
@@ -535,7 +536,7 @@ fn value(b: u8) -> u16
 
 // The byte at a place of lent bytes; past their end it is 0.
 fn get(s: &[u8], i: usize) -> u8
-    ensures { λ r. ⌜ r ≡ getD (now (s .entry)) i 0 ⌝ }
+    ensures { λ r. ⌜ r ≡ getD (lent s) i 0 ⌝ }
 {
     if i < s.len() { s[i] } else { 0 }
 }

@@ -6,6 +6,7 @@ use word::Micros;
 use word::Samples;
 ghost use mathlib.Core.Path.{_≡_};
 ghost use Prim.Native.Nat.{_≤_};
+ghost use Rattle.word.specs.Lent.{lent};
 ghost use Rattle.word.specs.Word.{signedOf};
 ghost use Rattle.panel.specs.Shown.{voltsOf, factorOf, Times, shownSetting, shownStatus, shown, readingOf};
 ghost use Rattle.panel.specs.Plots.{plotOf, plotFrom, PlotExact, PointExact};
@@ -55,7 +56,7 @@ pub fn factor(word: u16) -> f64
 // A point of a table of a channel, where the lent words have the word of address a at place a.
 // Nothing where the channel, the table or the point is not there, or the ramp ends before it.
 pub fn plot_point(words: &[u16], channel: usize, table: usize, point: usize) -> Plot
-    ensures { λ r. ⌜ (r ≡ plotOf (now (words .entry)) channel table point) × PlotExact (now (words .entry)) channel table point r ⌝ }
+    ensures { λ r. ⌜ (r ≡ plotOf (lent words) channel table point) × PlotExact (lent words) channel table point r ⌝ }
 {
     if 4 <= channel {
         return Plot::Nothing;
@@ -72,7 +73,7 @@ pub fn plot_point(words: &[u16], channel: usize, table: usize, point: usize) -> 
 // The same in the table whose first word is at `first`.
 fn plot_from(words: &[u16], first: usize, point: usize) -> Plot
     requires { ⌜ (first ≤ 0x10000) × (point ≤ 63) ⌝ }
-    ensures { λ r. ⌜ (r ≡ plotFrom (now (words .entry)) first point) × PointExact (now (words .entry)) first point r ⌝ }
+    ensures { λ r. ⌜ (r ≡ plotFrom (lent words) first point) × PointExact (lent words) first point r ⌝ }
 {
     let mut micros: u32 = 0;
     let mut n: usize = 0;

@@ -5,6 +5,7 @@ use libc::STDIN_FILENO;
 use libc::STDOUT_FILENO;
 ghost use Prim.Native.Nat.{_≤_};
 ghost use lib.ListN.{length};
+ghost use Rattle.word.specs.Lent.{lent, left};
 ghost use Rattle.line.specs.Session.{opened};
 ghost use Rattle.rampcard.specs.Served.{Served};
 
@@ -102,7 +103,7 @@ fn serve_chunk(
     chunk: &[u8],
 ) -> Turn
     requires { ⌜ 265 ≤ length (now out) ⌝ }
-    ensures { λ r. ⌜ Served (opened card (now (settings .entry)) (now (tables .entry)) (now (line .entry)) held) (now (chunk .entry)) (now (settings .exit)) (now (tables .exit)) (now (line .exit)) r ⌝ }
+    ensures { λ r. ⌜ Served (opened card (lent settings) (lent tables) (lent line) held) (lent chunk) (left settings) (left tables) (left line) r ⌝ }
 {
     let mut k = card;
     let mut h = held;

@@ -10,6 +10,7 @@ use slots::Holder;
 ghost use mathlib.Core.Path.{_≡_};
 ghost use Prim.Native.Nat.{_≤_};
 ghost use lib.ListN.{take, length};
+ghost use Rattle.word.specs.Lent.{lent, left};
 ghost use Rattle.map.specs.Map.{registerOf};
 ghost use Rattle.channel.specs.Channel.{with};
 ghost use Rattle.card.specs.Card.{state};
@@ -73,7 +74,7 @@ pub fn write(
     count: usize,
     words: &[u16],
 ) -> Written
-    ensures { λ r. ⌜ (r ≡ written (writeOf (state card (now (settings .entry)) (now (tables .entry))) start count (now (words .entry)))) × (now (settings .exit) ≡ writeOf (state card (now (settings .entry)) (now (tables .entry))) start count (now (words .entry)) .state .settings) × (now (tables .exit) ≡ writeOf (state card (now (settings .entry)) (now (tables .entry))) start count (now (words .entry)) .state .tables) ⌝ }
+    ensures { λ r. ⌜ (r ≡ written (writeOf (state card (lent settings) (lent tables)) start count (lent words))) × (left settings ≡ writeOf (state card (lent settings) (lent tables)) start count (lent words) .state .settings) × (left tables ≡ writeOf (state card (lent settings) (lent tables)) start count (lent words) .state .tables) ⌝ }
 {
     if bad_count(count, words.len()) {
         return ended(card, Answer::BadCount);
@@ -93,7 +94,7 @@ pub fn write(
 
 // A read of `count` words from an address on, into the first words of the slice.
 pub fn read(settings: &[u16], card: Card, start: u16, count: usize, words: &mut [u16]) -> Answer
-    ensures { λ r. ⌜ (r ≡ readOf (now (settings .entry)) card start count (now (words .entry)) .answer) × (now (words .exit) ≡ readOf (now (settings .entry)) card start count (now (words .entry)) .words) ⌝ }
+    ensures { λ r. ⌜ (r ≡ readOf (lent settings) card start count (lent words) .answer) × (left words ≡ readOf (lent settings) card start count (lent words) .words) ⌝ }
 {
     if bad_count(count, words.len()) {
         return Answer::BadCount;
@@ -203,7 +204,7 @@ fn write_words(
     count: usize,
 ) -> Written
     requires { ⌜ (count ≤ length (now words)) × (count ≤ 16381) ⌝ }
-    ensures { λ r. ⌜ (r ≡ written (writeWords (state card (now (settings .entry)) (now (tables .entry))) start last 0 (take count (now (words .entry))))) × (now (settings .exit) ≡ writeWords (state card (now (settings .entry)) (now (tables .entry))) start last 0 (take count (now (words .entry))) .state .settings) × (now (tables .exit) ≡ writeWords (state card (now (settings .entry)) (now (tables .entry))) start last 0 (take count (now (words .entry))) .state .tables) ⌝ }
+    ensures { λ r. ⌜ (r ≡ written (writeWords (state card (lent settings) (lent tables)) start last 0 (take count (lent words)))) × (left settings ≡ writeWords (state card (lent settings) (lent tables)) start last 0 (take count (lent words)) .state .settings) × (left tables ≡ writeWords (state card (lent settings) (lent tables)) start last 0 (take count (lent words)) .state .tables) ⌝ }
 {
     let mut k = card;
     let mut i: usize = 0;
@@ -236,7 +237,7 @@ fn read_words(
     count: usize,
 ) -> Answer
     requires { ⌜ count ≤ 16381 ⌝ }
-    ensures { λ r. ⌜ (r ≡ readWords (now (settings .entry)) card start last 0 count (now (words .entry)) .answer) × (now (words .exit) ≡ readWords (now (settings .entry)) card start last 0 count (now (words .entry)) .words) ⌝ }
+    ensures { λ r. ⌜ (r ≡ readWords (lent settings) card start last 0 count (lent words) .answer) × (left words ≡ readWords (lent settings) card start last 0 count (lent words) .words) ⌝ }
 {
     let mut i: usize = 0;
     while i < count {
@@ -258,7 +259,7 @@ fn write_word(
     address: u16,
     value: u16,
 ) -> Stepped
-    ensures { λ r. ⌜ (r .card ≡ writeWord (state card (now (settings .entry)) (now (tables .entry))) address value .state .card) × (r .verdict ≡ writeWord (state card (now (settings .entry)) (now (tables .entry))) address value .verdict) × (now (settings .exit) ≡ writeWord (state card (now (settings .entry)) (now (tables .entry))) address value .state .settings) × (now (tables .exit) ≡ writeWord (state card (now (settings .entry)) (now (tables .entry))) address value .state .tables) ⌝ }
+    ensures { λ r. ⌜ (r .card ≡ writeWord (state card (lent settings) (lent tables)) address value .state .card) × (r .verdict ≡ writeWord (state card (lent settings) (lent tables)) address value .verdict) × (left settings ≡ writeWord (state card (lent settings) (lent tables)) address value .state .settings) × (left tables ≡ writeWord (state card (lent settings) (lent tables)) address value .state .tables) ⌝ }
 {
     let register = map::register_at(address);
     let verdict = judge(settings, card, register, value);
@@ -279,7 +280,7 @@ fn write_word(
 
 // Whether a word may be written, in the paper's order.
 fn judge(settings: &[u16], card: Card, register: Register, value: u16) -> Verdict
-    ensures { λ r. ⌜ r ≡ judgeOf (now (settings .entry)) card register value ⌝ }
+    ensures { λ r. ⌜ r ≡ judgeOf (lent settings) card register value ⌝ }
 {
     if is_fixed(register) {
         return Verdict::Refused(Why::Fixed);
@@ -307,7 +308,7 @@ fn is_fixed(register: Register) -> bool
 
 // The event belongs to another level.
 fn is_held(settings: &[u16], register: Register, value: u16) -> bool
-    ensures { λ b. ⌜ b ≡ heldAt (now (settings .entry)) register value ⌝ }
+    ensures { λ b. ⌜ b ≡ heldAt (lent settings) register value ⌝ }
 {
     match register {
         Register::Slot(level) => held_elsewhere(settings, level, value),
@@ -316,7 +317,7 @@ fn is_held(settings: &[u16], register: Register, value: u16) -> bool
 }
 
 fn held_elsewhere(settings: &[u16], level: usize, value: u16) -> bool
-    ensures { λ b. ⌜ b ≡ heldAt (now (settings .entry)) (Register.Slot level) value ⌝ }
+    ensures { λ b. ⌜ b ≡ heldAt (lent settings) (Register.Slot level) value ⌝ }
 {
     if value == 0xFE {
         return false;
@@ -366,7 +367,7 @@ fn perform(
     address: u16,
     effect: Effect,
 ) -> Card
-    ensures { λ r. ⌜ (r ≡ performOf (state card (now (settings .entry)) (now (tables .entry))) address effect .card) × (now (settings .exit) ≡ performOf (state card (now (settings .entry)) (now (tables .entry))) address effect .settings) × (now (tables .exit) ≡ performOf (state card (now (settings .entry)) (now (tables .entry))) address effect .tables) ⌝ }
+    ensures { λ r. ⌜ (r ≡ performOf (state card (lent settings) (lent tables)) address effect .card) × (left settings ≡ performOf (state card (lent settings) (lent tables)) address effect .settings) × (left tables ≡ performOf (state card (lent settings) (lent tables)) address effect .tables) ⌝ }
 {
     match effect {
         Effect::Keep(v) => {
@@ -439,7 +440,7 @@ fn with_shown(ch: Channel, s: Shown) -> Channel
 
 // The word that is read at an address.
 fn read_word(settings: &[u16], card: Card, address: u16) -> u16
-    ensures { λ r. ⌜ r ≡ readWord (now (settings .entry)) card address ⌝ }
+    ensures { λ r. ⌜ r ≡ readWord (lent settings) card address ⌝ }
 {
     match map::register_at(address) {
         Register::Setting(_) | Register::Fixed(_) | Register::Slot(_) => {

@@ -3,6 +3,7 @@ ghost use mathlib.Core.Path.{_≡_};
 ghost use lib.ListN.{getD, set};
 ghost use Rattle.word.specs.Word.{signedOf, grown, lasting};
 ghost use Rattle.word.specs.Table.{isEnd};
+ghost use Rattle.word.specs.Lent.{lent, left};
 
 // A word as a signed number, from -32768 to 32767.
 pub fn signed(word: u16) -> i32
@@ -49,14 +50,14 @@ pub fn ends(point: usize, step: Samples) -> bool
 
 // The word at a place of lent words; past their end it is 0.
 pub fn get(words: &[u16], at: usize) -> u16
-    ensures { λ r. ⌜ r ≡ getD (now (words .entry)) at 0 ⌝ }
+    ensures { λ r. ⌜ r ≡ getD (lent words) at 0 ⌝ }
 {
     if at < words.len() { words[at] } else { 0 }
 }
 
 // Stores a word at a place of lent words; past their end nothing is stored.
 pub fn put(words: &mut [u16], at: usize, word: u16)
-    ensures { λ _. ⌜ now (words .exit) ≡ set (now (words .entry)) at word ⌝ }
+    ensures { λ _. ⌜ left words ≡ set (lent words) at word ⌝ }
 {
     if at < words.len() {
         words[at] = word;

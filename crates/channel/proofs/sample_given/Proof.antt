@@ -1,17 +1,9 @@
 -- `channel::sample_given` meets its contract. Assumes nothing.
 use borrow.Author.Needs.{needs}
-use mathlib.Core.Path.{_≡_, ap}
-use Prim.Native.Nat.{ℕ}
 use borrow.Author.Tests.{eq-eqb, ne-eqb}
-use Rattle.word.specs.Word.{lasting}
-use Rattle.word.specs.declared.Micros.{Micros}
 use Rattle.channel.specs.Ramp.{given}
 use Rattle.channel.proofs.sample_given.Statement.{statement}
 use Rattle.channel.proofs.sample_given.Tie as tie
-
--- one sample's time, as a value of its type
-one : {m : Micros} → m .0 ≡ lasting 1 → m ≡ record { 0 = lasting 1 }
-one e = ap (λ (n : ℕ). record { 0 = n }) e
 
 sample-at-requires : tie.Need-sample-at-requires
 sample-at-requires c κs = search needs
@@ -23,13 +15,9 @@ returns : tie.Need-returns
 unfolding given
 returns c = rw (eq-eqb _ _ (c .if1 .taken), c .before .before .before .shown-after .ensures, c .before .before .before .before .sample-at .ensures)
 
-micros-requires : tie.Need-micros-requires
-micros-requires c κs = search needs
-
 returns-2 : tie.Need-returns-2
 unfolding given
-returns-2 c = rw (ne-eqb _ _ (c .before .if1 .left), c .before .before .before .before .shown-after .ensures, c .before .before .before .before .before .sample-at .ensures, one (c .micros .ensures))
+returns-2 c = rw (ne-eqb _ _ (c .if1 .left), c .before .before .before .shown-after .ensures, c .before .before .before .before .sample-at .ensures)
 
 pub sample-given-spec : {M : Type 1} → statement M
-sample-given-spec =
-    tie.close (tie.spec sample-at-requires shown-after-requires returns micros-requires returns-2)
+sample-given-spec = tie.close (tie.spec sample-at-requires shown-after-requires returns returns-2)

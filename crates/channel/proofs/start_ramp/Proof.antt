@@ -15,6 +15,9 @@ add-get c = search needs
 get-requires : tie.Need-get-requires
 get-requires c κs = search needs
 
+micros-requires : tie.Need-micros-requires
+micros-requires c κs = search needs
+
 point-requires : tie.Need-point-requires
 point-requires c κs = search needs
 
@@ -29,7 +32,7 @@ in-phase-requires c κs = search needs
 
 returns : tie.Need-returns
 unfolding start
-returns c = c .in-phase .ensures ∙ rw (c .before .ramp-phase .ensures, c .before .before .before .sample-given .ensures, c .before .before .before .before .point .ensures, eq-eqb _ 1 (sym (c .before .before .before .before .before .before .get .ensures) ∙ c .before .before .before .before .before .if1 .taken))
+returns c = c .in-phase .ensures ∙ rw (c .before .ramp-phase .ensures, c .before .before .before .sample-given .ensures, c .before .before .before .before .point .ensures, c .before .before .before .before .before .micros .ensures, eq-eqb _ 1 (sym (c .before .before .before .before .before .before .before .get .ensures) ∙ c .before .before .before .before .before .before .if1 .taken))
 
 in-phase-requires-2 : tie.Need-in-phase-requires-2
 in-phase-requires-2 c κs = search needs
@@ -45,6 +48,7 @@ start-ramp-spec =
     mul-get
     add-get
     get-requires
+    micros-requires
     point-requires
     sample-given-requires
     ramp-phase-requires

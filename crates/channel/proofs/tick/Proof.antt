@@ -31,28 +31,22 @@ run-requires c κs = search needs
 returns : tie.Need-returns
 unfolding tickAt
 returns c =
-    let a = c .before .before .before .before .args in
+    let a = c .before .before .args in
     let e = told (a .settings .now) (a .tables .now) (a .c) (a .ch) (c .enum-told .given .1) in
     (ap (λ (x : Side). x .channel) e, ap (λ (x : Side). x .tables) e)
-
-same-length : tie.Need-same-length
-same-length c = search needs
 
 returns-2 : tie.Need-returns-2
 unfolding tickAt
 returns-2 c =
-    let a = c .before .before .before .before .before .before .before .before .before .args in
-    let e = told (a .settings .now) (a .tables .now) (a .c) (a .ch) (c .before .before .before .before .before .p .given .1) in
-    (c .before .before .count .ensures .0 ∙ ap (λ (x : Side). x .channel) e, c .before .before .count .ensures .1 ∙ ap (λ (x : Side). x .tables) e)
-
-same-length-2 : tie.Need-same-length-2
-same-length-2 c = search needs
+    let a = c .before .before .before .before .before .before .args in
+    let e = told (a .settings .now) (a .tables .now) (a .c) (a .ch) (c .before .before .before .before .p .given .1) in
+    (c .count .ensures .0 ∙ ap (λ (x : Side). x .channel) e, c .count .ensures .1 ∙ ap (λ (x : Side). x .tables) e)
 
 returns-3 : tie.Need-returns-3
 unfolding tickAt
 returns-3 c =
-    let a = c .before .before .before .before .before .before .before .args in
-    let e = told (a .settings .now) (a .tables .now) (a .c) (a .ch) (c .before .before .before .p2 .given .1) in
+    let a = c .before .before .before .before .before .before .args in
+    let e = told (a .settings .now) (a .tables .now) (a .c) (a .ch) (c .before .before .before .before .p2 .given .1) in
     (c .run .ensures ∙ ap (λ (x : Side). x .channel) e, ap (λ (x : Side). x .tables) e)
 
 pub tick-spec : {M : Type 1} → statement M
@@ -65,7 +59,5 @@ tick-spec =
     enum-known-p-2
     run-requires
     returns
-    same-length
     returns-2
-    same-length-2
     returns-3)

@@ -21,25 +21,22 @@ word-at-requires c κs = search needs
 load-level-requires : tie.Need-load-level-requires
 load-level-requires c κs = search needs
 
-same-length : tie.Need-same-length
-same-length c = search needs
-
 returns : tie.Need-returns
 returns c =
-    let a = c .before .before .before .before .before .before .before .before .args in
-    let h : word (a .settings .now) (delayAt (a .c) (a .level)) ≤ 10 = rw (c .before .before .before .before .before .word-at .ensures) at (c .before .before .before .before .if1 .taken) in
+    let a = c .before .before .before .before .before .before .args in
+    let h : word (a .settings .now) (delayAt (a .c) (a .level)) ≤ 10 = rw (c .before .before .before .before .word-at .ensures) at (c .before .before .before .if1 .taken) in
     let e = at-once (a .settings .now) (a .tables .now) (a .c) (a .ch) (a .level) h in
-    (c .before .before .load-level .ensures .0 ∙ ap (λ (x : Side). x .channel) (sym e), c .before .before .load-level .ensures .1 ∙ ap (λ (x : Side). x .tables) (sym e))
+    (c .load-level .ensures .0 ∙ ap (λ (x : Side). x .channel) (sym e), c .load-level .ensures .1 ∙ ap (λ (x : Side). x .tables) (sym e))
 
-cast-t13 : tie.Need-cast-t13
-cast-t13 c = search needs
+cast-t17 : tie.Need-cast-t17
+cast-t17 c = search needs
 
 older-ramp-requires : tie.Need-older-ramp-requires
 older-ramp-requires c κs = search needs
 
 returns-2 : tie.Need-returns-2
 returns-2 c =
-    let a = c .before .before .before .before .before .before .before .args in
+    let a = c .before .before .before .before .before .before .args in
     let w = c .before .before .before .before .word-at .ensures in
     let h : 10 < word (a .settings .now) (delayAt (a .c) (a .level)) = rw w at (c .before .before .before .if1 .left) in
     let e = later (a .settings .now) (a .tables .now) (a .c) (a .ch) (a .level) h in
@@ -51,8 +48,7 @@ trigger-spec =
     (tie.spec
     word-at-requires
     load-level-requires
-    same-length
     returns
-    cast-t13
+    cast-t17
     older-ramp-requires
     returns-2)
