@@ -1,9 +1,11 @@
 -- The card: four channels, the level counts, the active level and its event; beside it the lent words.
+use mathlib.Core.Path.{_≡_}
 use mathlib.Core.Bool.{cond}
 use mathlib.Core.List.{List, [], _∷_}
 use Prim.Native.Nat.{ℕ}
 use lib.Dec.{ltb}
 use lib.ListN.{getD, set}
+use Rattle.word.specs.Lent.{Lent, lent, left}
 use Rattle.channel.specs.declared.Channel.{Channel}
 use Rattle.channel.specs.declared.Phase.the-variants.{Rest}
 use Rattle.channel.specs.Ramp.{place}
@@ -18,6 +20,22 @@ pub record State : Type 0 where
 
 abbrev pub state : Card → List ℕ → List ℕ → State
 state k s l = record { card = k; settings = s; tables = l }
+
+-- ---- a call: the state that it finds, and the one that it leaves
+
+-- the card handed over, the settings and the tables lent
+abbrev pub before : Card → Lent → Lent → State
+before k settings tables = state k (lent settings) (lent tables)
+
+-- the card handed back and the tables left are those of a state; the settings stay
+abbrev pub Leaves : State → Card → Lent → Type 0
+Leaves st k tables = (k ≡ st .card) × (left tables ≡ st .tables)
+
+-- the same of a call that may write the settings too
+abbrev pub LeavesWhole : State → Card → Lent → Lent → Type 0
+LeavesWhole st k settings tables = (k ≡ st .card) × (left settings ≡ st .settings) × (left tables ≡ st .tables)
+
+-- ---- the card's parts
 
 -- a channel that is not there
 abbrev pub noChannel : Channel
@@ -58,3 +76,7 @@ onAll f k l =
     let c : Side = f 2 (b .tables) (channelOf k 2) in
     let d : Side = f 3 (c .tables) (channelOf k 3) in
     record { channels = a .channel ∷ b .channel ∷ c .channel ∷ d .channel ∷ []; tables = d .tables }
+
+-- the four channels handed back, in a card that is else `k`, and the tables left
+abbrev pub LeavesAll : All → Card → Card → Lent → Type 0
+LeavesAll x k r tables = (r ≡ withChannels k (x .channels)) × (left tables ≡ x .tables)

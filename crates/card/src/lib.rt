@@ -8,10 +8,10 @@ use slots::Holder;
 use word::Samples;
 ghost use mathlib.Core.Path.{_≡_};
 ghost use Rattle.word.specs.Lent.{lent, left};
-ghost use Rattle.card.specs.Card.{state, noChannel, channelOf, withChannel, countOf, withCount, withChannels};
+ghost use Rattle.card.specs.Card.{before, Leaves, LeavesWhole, LeavesAll, noChannel, channelOf, withChannel, countOf, withCount};
 ghost use Rattle.card.specs.Trigger.{counted, struck, triggerOf, acceptedOf, eventOf};
 ghost use Rattle.card.specs.Tick.{moved, advanced, tickWith, ticks};
-ghost use Rattle.card.specs.Reset.{settingsReset, tablesReset, cardReset};
+ghost use Rattle.card.specs.Reset.{settingsReset, cardReset, resetOf};
 
 // The level and the event are those shown in 0x4210 and 0x4211.
 pub struct Card {
@@ -22,8 +22,8 @@ pub struct Card {
 }
 
 // Settings, loaded tables and card after a reset.
-pub fn reset(settings: &mut [u16], tables: &mut [u16]) -> Card
-    ensures { λ r. ⌜ (r ≡ cardReset) × (left settings ≡ settingsReset (lent settings)) × (left tables ≡ tablesReset (lent tables)) ⌝ }
+pub fn reset(settings: &mut [u16; 16960], tables: &mut [u16; 512]) -> Card
+    ensures { λ r. ⌜ LeavesWhole (resetOf (lent settings) (lent tables)) r settings tables ⌝ }
 {
     reset_settings(settings);
     slots::fill(tables, 0, 512, 0);
@@ -31,16 +31,16 @@ pub fn reset(settings: &mut [u16], tables: &mut [u16]) -> Card
 }
 
 // One tick: every channel moves on by a microsecond, then the event is taken. 0xFE is no event.
-pub fn tick(settings: &[u16], tables: &mut [u16], card: Card, event: u16) -> Card
-    ensures { λ r. ⌜ (r ≡ tickWith (state card (lent settings) (lent tables)) event .card) × (left tables ≡ tickWith (state card (lent settings) (lent tables)) event .tables) ⌝ }
+pub fn tick(settings: &[u16; 16960], tables: &mut [u16; 512], card: Card, event: u16) -> Card
+    ensures { λ r. ⌜ Leaves (tickWith (before card settings tables) event) r tables ⌝ }
 {
     let k = advance(settings, tables, card);
     receive(settings, tables, k, event)
 }
 
 // n ticks with no event.
-pub fn run(settings: &[u16], tables: &mut [u16], card: Card, n: u32) -> Card
-    ensures { λ r. ⌜ (r ≡ ticks n (state card (lent settings) (lent tables)) .card) × (left tables ≡ ticks n (state card (lent settings) (lent tables)) .tables) ⌝ }
+pub fn run(settings: &[u16; 16960], tables: &mut [u16; 512], card: Card, n: u32) -> Card
+    ensures { λ r. ⌜ Leaves (ticks n (before card settings tables)) r tables ⌝ }
 {
     let mut k = card;
     let mut i: u32 = 0;
@@ -52,8 +52,14 @@ pub fn run(settings: &[u16], tables: &mut [u16], card: Card, n: u32) -> Card
 }
 
 // An accepted trigger of a level: its count, every channel's countdown, then the level and event shown.
-pub fn trigger(settings: &[u16], tables: &mut [u16], card: Card, level: u16, event: u16) -> Card
-    ensures { λ r. ⌜ (r ≡ triggerOf (state card (lent settings) (lent tables)) level event .card) × (left tables ≡ triggerOf (state card (lent settings) (lent tables)) level event .tables) ⌝ }
+pub fn trigger(
+    settings: &[u16; 16960],
+    tables: &mut [u16; 512],
+    card: Card,
+    level: u16,
+    event: u16,
+) -> Card
+    ensures { λ r. ⌜ Leaves (triggerOf (before card settings tables) level event) r tables ⌝ }
 {
     let mut k = count_trigger(strike(settings, tables, card, level), level);
     k.level = level;
@@ -102,8 +108,8 @@ pub fn with_count(card: Card, level: usize, n: u16) -> Card
 }
 
 // Every channel one microsecond on.
-fn advance(settings: &[u16], tables: &mut [u16], card: Card) -> Card
-    ensures { λ r. ⌜ (r ≡ advanced (state card (lent settings) (lent tables)) .card) × (left tables ≡ advanced (state card (lent settings) (lent tables)) .tables) ⌝ }
+fn advance(settings: &[u16; 16960], tables: &mut [u16; 512], card: Card) -> Card
+    ensures { λ r. ⌜ Leaves (advanced (before card settings tables)) r tables ⌝ }
 {
     let a = channel::tick(settings, tables, 0, card.channels[0]);
     let b = channel::tick(settings, tables, 1, card.channels[1]);
@@ -119,8 +125,8 @@ fn advance(settings: &[u16], tables: &mut [u16], card: Card) -> Card
 }
 
 // Every channel's countdown is set anew for a level.
-fn strike(settings: &[u16], tables: &mut [u16], card: Card, level: u16) -> Card
-    ensures { λ r. ⌜ (r ≡ withChannels card (struck (state card (lent settings) (lent tables)) level .channels)) × (left tables ≡ struck (state card (lent settings) (lent tables)) level .tables) ⌝ }
+fn strike(settings: &[u16; 16960], tables: &mut [u16; 512], card: Card, level: u16) -> Card
+    ensures { λ r. ⌜ LeavesAll (struck (before card settings tables) level) card r tables ⌝ }
 {
     let a = channel::trigger(settings, tables, 0, card.channels[0], level);
     let b = channel::trigger(settings, tables, 1, card.channels[1], level);
@@ -144,7 +150,7 @@ fn count_trigger(card: Card, level: u16) -> Card
 }
 
 // The level of the accepted trigger that an event is, if it is one.
-fn accepted(settings: &[u16], event: u16) -> Holder
+fn accepted(settings: &[u16; 16960], event: u16) -> Holder
     ensures { λ r. ⌜ r ≡ acceptedOf (lent settings) event ⌝ }
 {
     if event == 0xFE {
@@ -158,8 +164,8 @@ fn accepted(settings: &[u16], event: u16) -> Holder
 }
 
 // An event received.
-fn receive(settings: &[u16], tables: &mut [u16], card: Card, event: u16) -> Card
-    ensures { λ r. ⌜ (r ≡ eventOf (state card (lent settings) (lent tables)) event .card) × (left tables ≡ eventOf (state card (lent settings) (lent tables)) event .tables) ⌝ }
+fn receive(settings: &[u16; 16960], tables: &mut [u16; 512], card: Card, event: u16) -> Card
+    ensures { λ r. ⌜ Leaves (eventOf (before card settings tables) event) r tables ⌝ }
 {
     match accepted(settings, event) {
         Holder::Level(level) => trigger(settings, tables, card, level, event),
@@ -167,7 +173,7 @@ fn receive(settings: &[u16], tables: &mut [u16], card: Card, event: u16) -> Card
     }
 }
 
-fn reset_settings(settings: &mut [u16])
+fn reset_settings(settings: &mut [u16; 16960])
     ensures { λ _. ⌜ left settings ≡ settingsReset (lent settings) ⌝ }
 {
     slots::fill(settings, 0, 16960, 0);

@@ -32,14 +32,11 @@ element-copy-out-tick-4 c = search needs
 tick-requires-4 : tie.Need-tick-requires-4
 tick-requires-4 c κs = search needs
 
-same-length : tie.Need-same-length
-same-length c = c .before .before .before .tick4 .kept .1 .0 ∙ c .before .before .before .before .before .before .before .before .tick3 .kept .1 .0 ∙ c .before .before .before .before .before .before .before .before .before .before .before .before .before .tick2 .kept .1 .0 ∙ c .before .before .before .before .before .before .before .before .before .before .before .before .before .before .before .before .before .before .tick .kept .1 .0
-
 returns : tie.Need-returns
 unfolding advanced
 returns c =
-    let a = c .before .before .before .before .before .before .before .before .before .before .before .before .before .before .before .before .before .before .before .before .before .before .before .args in
-    let r = all-four (λ i l ch. tickOf (a .settings .now) l i ch) (a .t3) (record { channel = c .before .before .before .before .before .before .before .before .before .before .before .before .before .before .before .before .before .before .tick .ensures .0; tables = c .before .before .before .before .before .before .before .before .before .before .before .before .before .before .before .before .before .before .tick .ensures .1 }) (record { channel = c .before .before .before .before .before .before .before .before .before .before .before .before .before .tick2 .ensures .0; tables = c .before .before .before .before .before .before .before .before .before .before .before .before .before .tick2 .ensures .1 }) (record { channel = c .before .before .before .before .before .before .before .before .tick3 .ensures .0; tables = c .before .before .before .before .before .before .before .before .tick3 .ensures .1 }) (record { channel = c .before .before .before .tick4 .ensures .0; tables = c .before .before .before .tick4 .ensures .1 }) in
+    let a = c .before .before .before .before .before .before .before .before .before .before .before .before .before .args in
+    let r = all-four (λ i l ch. tickOf (a .settings .now) l i ch) (a .t3) (record { channel = c .before .before .before .before .before .before .before .before .before .before .tick .ensures .0; tables = c .before .before .before .before .before .before .before .before .before .before .tick .ensures .1 }) (record { channel = c .before .before .before .before .before .before .before .tick2 .ensures .0; tables = c .before .before .before .before .before .before .before .tick2 .ensures .1 }) (record { channel = c .before .before .before .before .tick3 .ensures .0; tables = c .before .before .before .before .tick3 .ensures .1 }) (record { channel = c .before .tick4 .ensures .0; tables = c .before .tick4 .ensures .1 }) in
     (ap (withChannels (a .t3)) (r .0), r .1)
 
 pub advance-spec : {M : Type 1} → statement M
@@ -54,5 +51,4 @@ advance-spec =
     tick-requires-3
     element-copy-out-tick-4
     tick-requires-4
-    same-length
     returns)

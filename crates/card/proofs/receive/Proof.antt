@@ -24,18 +24,15 @@ trigger-requires c κs = search needs
 enum-told : tie.Need-enum-told
 enum-told c = search needs
 
-same-length : tie.Need-same-length
-same-length c = search needs
-
 returns : tie.Need-returns
 returns c =
-    let a = c .before .before .before .before .before .before .before .before .before .before .args in
-    let e = told (state (a .card) (a .settings .now) (a .tables .now)) (a .event) (c .before .before .before .before .before .level .given .1) (c .before .before .before .before .before .before .before .accepted .ensures) in
-    (c .before .before .trigger .ensures .0 ∙ ap (λ (x : State). x .card) e, c .before .before .trigger .ensures .1 ∙ ap (λ (x : State). x .tables) e)
+    let a = c .before .before .before .before .before .before .args in
+    let e = told (state (a .card) (a .settings .now) (a .tables .now)) (a .event) (c .before .before .before .level .given .1) (c .before .before .before .before .before .accepted .ensures) in
+    (c .trigger .ensures .0 ∙ ap (λ (x : State). x .card) e, c .trigger .ensures .1 ∙ ap (λ (x : State). x .tables) e)
 
 returns-2 : tie.Need-returns-2
 returns-2 c =
-    let a = c .before .before .before .before .before .args in
+    let a = c .before .before .before .args in
     let e = told (state (a .card) (a .settings .now) (a .tables .now)) (a .event) (c .enum-told .given .1) (c .before .before .accepted .ensures) in
     (ap (λ (x : State). x .card) e, ap (λ (x : State). x .tables) e)
 
@@ -47,6 +44,5 @@ receive-spec =
     enum-known-level
     trigger-requires
     enum-told
-    same-length
     returns
     returns-2)

@@ -13,23 +13,9 @@ fill-requires c κs = search needs
 fresh-requires : tie.Need-fresh-requires
 fresh-requires c κs = search needs
 
-same-length : tie.Need-same-length
-same-length c = search needs
-
-same-length-2 : tie.Need-same-length-2
-same-length-2 c = search needs
-
 returns : tie.Need-returns
 unfolding tablesReset
-returns c = (c .fresh .ensures, c .before .before .before .before .before .before .before .reset-settings .ensures, c .before .before .before .fill .ensures)
+returns c = (c .fresh .ensures, c .before .before .before .reset-settings .ensures, c .before .fill .ensures)
 
 pub reset-spec : {M : Type 1} → statement M
-reset-spec =
-    tie.close
-    (tie.spec
-    reset-settings-requires
-    fill-requires
-    fresh-requires
-    same-length
-    same-length-2
-    returns)
+reset-spec = tie.close (tie.spec reset-settings-requires fill-requires fresh-requires returns)

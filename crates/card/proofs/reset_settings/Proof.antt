@@ -22,12 +22,9 @@ fill-requires-5 c κs = search needs
 erase-requires : tie.Need-erase-requires
 erase-requires c κs = search needs
 
-same-length : tie.Need-same-length
-same-length c = search needs
-
 returns : tie.Need-returns
 unfolding settingsReset
-returns c = rw (c .before .before .erase .ensures, c .before .before .before .before .before .before .fill5 .ensures, c .before .before .before .before .before .before .before .before .before .before .fill4 .ensures, c .before .before .before .before .before .before .before .before .before .before .before .before .before .before .fill3 .ensures, c .before .before .before .before .before .before .before .before .before .before .before .before .before .before .before .before .before .before .fill2 .ensures, c .before .before .before .before .before .before .before .before .before .before .before .before .before .before .before .before .before .before .before .before .before .before .fill .ensures)
+returns c = rw (c .erase .ensures, c .before .before .fill5 .ensures, c .before .before .before .before .fill4 .ensures, c .before .before .before .before .before .before .fill3 .ensures, c .before .before .before .before .before .before .before .before .fill2 .ensures, c .before .before .before .before .before .before .before .before .before .before .fill .ensures)
 
 pub reset-settings-spec : {M : Type 1} → statement M
 reset-settings-spec =
@@ -39,5 +36,4 @@ reset-settings-spec =
     fill-requires-4
     fill-requires-5
     erase-requires
-    same-length
     returns)

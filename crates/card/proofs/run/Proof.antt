@@ -2,7 +2,6 @@
 use borrow.Author.Needs.{needs}
 use mathlib.Core.Path.{_≡_, refl, sym, ap, _∙_}
 use Prim.Native.Nat.{_≤_, _-_}
-use lib.ListN.{length}
 use Rattle.card.specs.Card.{State, state}
 use Rattle.card.specs.Tick.{advanced, ticks}
 use Rattle.card.proofs.Ticks.{same-state, one-more, none-done, all-done}
@@ -10,13 +9,13 @@ use Rattle.card.proofs.run.Statement.{statement}
 use Rattle.card.proofs.run.Tie as tie
 
 abbrev Inv-loop : tie.InvT-loop
-Inv-loop settings tables₀ n k₀ i₀ tables k i = (i ≤ n) × (ticks (n - i) (state k settings tables) ≡ ticks n (state k₀ settings tables₀)) × (length tables ≡ length tables₀)
+Inv-loop settings tables₀ n k₀ i₀ tables k i = (i ≤ n) × (ticks (n - i) (state k settings tables) ≡ ticks n (state k₀ settings tables₀))
 
 abbrev μ-loop : tie.MeasureT-loop
 μ-loop settings tables₀ n k₀ i₀ tables k i = n - i
 
 loop-holds : tie.Need-loop-holds Inv-loop μ-loop
-loop-holds c = let a = c .before .before .args in (search needs, none-done _ (state (a .card) (a .settings .now) (a .tables .now)), refl)
+loop-holds c = let a = c .args in (search needs, none-done _ (state (a .card) (a .settings .now) (a .tables .now)))
 
 advance-requires : tie.Need-advance-requires Inv-loop μ-loop
 advance-requires c κs = search needs
@@ -30,19 +29,16 @@ loop-less c = search needs
 loop-again : tie.Need-loop-again Inv-loop μ-loop
 unfolding advanced
 loop-again c =
-    let t = c .before .before .before .before .before .loop in
-    let s = c .before .before .before .before .before .before .before .before .args .settings .now in
+    let t = c .before .before .before .loop in
+    let s = c .before .before .before .before .args .settings .now in
     let st : State = state (t .k) s (t .tables) in
-    let e : state (c .before .before .advance .result) s (c .before .before .advance .last .1 .0) ≡ advanced st = same-state (advanced st) (c .before .before .advance .ensures .0) (c .before .before .advance .ensures .1) refl in
-    (search needs, ap (ticks _) e ∙ sym (one-more _ (t .i) st (c .before .before .before .before .loop-test .taken)) ∙ t .inv .1, c .before .before .advance .kept .1 .0 ∙ t .inv .2)
-
-same-length : tie.Need-same-length Inv-loop μ-loop
-same-length c = search needs
+    let e : state (c .advance .result) s (c .advance .last .1 .0) ≡ advanced st = same-state (advanced st) (c .advance .ensures .0) (c .advance .ensures .1) refl in
+    (search needs, ap (ticks _) e ∙ sym (one-more _ (t .i) st (c .before .before .loop-test .taken)) ∙ t .inv .1)
 
 returns : tie.Need-returns Inv-loop μ-loop
 returns c =
     let t = c .before .loop in
-    let a = c .before .before .before .before .args in
+    let a = c .before .before .args in
     let e : state (t .k) (a .settings .now) (t .tables) ≡ ticks (a .n) (state (a .card) (a .settings .now) (a .tables .now)) = all-done _ _ _ (t .inv .0) (c .loop-test .left) ∙ t .inv .1 in
     (ap (λ (x : State). x .card) e, ap (λ (x : State). x .tables) e)
 
@@ -57,5 +53,4 @@ run-spec =
     add-i
     loop-less
     loop-again
-    same-length
     returns)

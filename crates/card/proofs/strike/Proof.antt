@@ -31,13 +31,10 @@ element-copy-out-trigger-4 c = search needs
 trigger-requires-4 : tie.Need-trigger-requires-4
 trigger-requires-4 c κs = search needs
 
-same-length : tie.Need-same-length
-same-length c = c .before .before .before .trigger4 .kept .1 .0 ∙ c .before .before .before .before .before .before .before .before .trigger3 .kept .1 .0 ∙ c .before .before .before .before .before .before .before .before .before .before .before .before .before .trigger2 .kept .1 .0 ∙ c .before .before .before .before .before .before .before .before .before .before .before .before .before .before .before .before .before .before .trigger .kept .1 .0
-
 returns : tie.Need-returns
 returns c =
-    let a = c .before .before .before .before .before .before .before .before .before .before .before .before .before .before .before .before .before .before .before .before .before .before .before .args in
-    let r = all-four (λ i l ch. triggered (a .settings .now) l i ch (a .level)) (a .t3) (record { channel = c .before .before .before .before .before .before .before .before .before .before .before .before .before .before .before .before .before .before .trigger .ensures .0; tables = c .before .before .before .before .before .before .before .before .before .before .before .before .before .before .before .before .before .before .trigger .ensures .1 }) (record { channel = c .before .before .before .before .before .before .before .before .before .before .before .before .before .trigger2 .ensures .0; tables = c .before .before .before .before .before .before .before .before .before .before .before .before .before .trigger2 .ensures .1 }) (record { channel = c .before .before .before .before .before .before .before .before .trigger3 .ensures .0; tables = c .before .before .before .before .before .before .before .before .trigger3 .ensures .1 }) (record { channel = c .before .before .before .trigger4 .ensures .0; tables = c .before .before .before .trigger4 .ensures .1 }) in
+    let a = c .before .before .before .before .before .before .before .before .before .before .before .before .before .args in
+    let r = all-four (λ i l ch. triggered (a .settings .now) l i ch (a .level)) (a .t3) (record { channel = c .before .before .before .before .before .before .before .before .before .before .trigger .ensures .0; tables = c .before .before .before .before .before .before .before .before .before .before .trigger .ensures .1 }) (record { channel = c .before .before .before .before .before .before .before .trigger2 .ensures .0; tables = c .before .before .before .before .before .before .before .trigger2 .ensures .1 }) (record { channel = c .before .before .before .before .trigger3 .ensures .0; tables = c .before .before .before .before .trigger3 .ensures .1 }) (record { channel = c .before .trigger4 .ensures .0; tables = c .before .trigger4 .ensures .1 }) in
     (ap (withChannels (a .t3)) (r .0), r .1)
 
 pub strike-spec : {M : Type 1} → statement M
@@ -52,5 +49,4 @@ strike-spec =
     trigger-requires-3
     element-copy-out-trigger-4
     trigger-requires-4
-    same-length
     returns)

@@ -14,16 +14,13 @@ advance-requires c κs = search needs
 receive-requires : tie.Need-receive-requires
 receive-requires c κs = search needs
 
-same-length : tie.Need-same-length
-same-length c = search needs
-
 returns : tie.Need-returns
 unfolding advanced
 returns c =
-    let a = c .before .before .before .before .before .before .before .before .before .before .args in
+    let a = c .before .before .before .before .args in
     let st : State = state (a .card) (a .settings .now) (a .tables .now) in
-    let e : state (c .before .before .before .before .before .before .advance .result) (a .settings .now) (c .before .before .before .before .before .before .advance .last .1 .0) ≡ advanced st = same-state (advanced st) (c .before .before .before .before .before .before .advance .ensures .0) (c .before .before .before .before .before .before .advance .ensures .1) refl in
-    (c .before .before .receive .ensures .0 ∙ ap (λ (x : State). eventOf x (a .event) .card) e, c .before .before .receive .ensures .1 ∙ ap (λ (x : State). eventOf x (a .event) .tables) e)
+    let e : state (c .before .before .advance .result) (a .settings .now) (c .before .before .advance .last .1 .0) ≡ advanced st = same-state (advanced st) (c .before .before .advance .ensures .0) (c .before .before .advance .ensures .1) refl in
+    (c .receive .ensures .0 ∙ ap (λ (x : State). eventOf x (a .event) .card) e, c .receive .ensures .1 ∙ ap (λ (x : State). eventOf x (a .event) .tables) e)
 
 pub tick-spec : {M : Type 1} → statement M
-tick-spec = tie.close (tie.spec advance-requires receive-requires same-length returns)
+tick-spec = tie.close (tie.spec advance-requires receive-requires returns)

@@ -12,14 +12,11 @@ strike-requires c κs = search needs
 count-trigger-requires : tie.Need-count-trigger-requires
 count-trigger-requires c κs = search needs
 
-same-length : tie.Need-same-length
-same-length c = search needs
-
 returns : tie.Need-returns
 unfolding triggerOf
 returns c =
-    let a = c .before .before .before .before .before .before .before .args in
-    (ap (λ (k : Card). showing k (a .level) (a .event)) (c .count-trigger .ensures ∙ ap (λ (k : Card). counted k (a .level)) (c .before .before .before .strike .ensures .0)), c .before .before .before .strike .ensures .1)
+    let a = c .before .before .before .args in
+    (ap (λ (k : Card). showing k (a .level) (a .event)) (c .count-trigger .ensures ∙ ap (λ (k : Card). counted k (a .level)) (c .before .strike .ensures .0)), c .before .strike .ensures .1)
 
 pub trigger-spec : {M : Type 1} → statement M
-trigger-spec = tie.close (tie.spec strike-requires count-trigger-requires same-length returns)
+trigger-spec = tie.close (tie.spec strike-requires count-trigger-requires returns)
