@@ -161,26 +161,3 @@ unfolding cardRows
 count-register level h =
     let d : 0x4220 + level - 0x4220 ≡ level = omega arith in
     card-row (0x4220 + level) 7 (omega arith) (omega arith) (omega arith) (omega arith) ∙ ap R.Count d
-
--- ---- no listed word lies past the level counts
-
-abbrev Short : Row → Type 0
-Short r = r .region .last < 16960
-
-card-short : All Short cardRows
-unfolding cardRows
-card-short = (omega arith, (omega arith, (omega arith, (omega arith, (omega arith, (omega arith, (omega arith, (omega arith, tt))))))))
-
-pub named-below : (a : ℕ) → named (registerOf a) ≡ true → a < 16960
-named-below a = go (ltb a 0x4000) refl
-  where
-    in-rows : (h : Hit) → scan cardRows a ≡ h → named (namedIn h (a / 0x1000) a) ≡ true → a < 16960
-    in-rows (hit r) e n = by (hits cardRows a r e)
-      where
-        by : Hits cardRows a r → a < 16960
-        by (at k m x u v) = let s = scan-all Short cardRows card-short a r e in omega arith
-    in-rows miss e n = absurd (true≢false (sym n))
-
-    go : (x : Bool) → ltb a 0x4000 ≡ x → named (registerOf a) ≡ true → a < 16960
-    go true e n = let h = ltb-true a 0x4000 e in omega arith
-    go false e n = in-rows (scan cardRows a) refl (rw (in-card a (ltb-false a 0x4000 e)) at n)

@@ -23,7 +23,8 @@ use Rattle.transfer.specs.Transfer.{writeOf}
 use Rattle.history.specs.History.{Act, Tick, Write, Read, Reset, act, acts, readBack, wordsDone}
 use Rattle.history.specs.Effects.{isSetting, Does, Keeps, Outputs, ClearsOverflow, ClearsCount, Erases, Idles, Triggers}
 use Rattle.history.specs.Settings.{isSlot, isScale, resetWord, wordLeft, leftAt, lastWord, SettingsKept}
-use Rattle.history.proofs.Addresses.{output-register, overflow-register, count-register, erase-register, manual-register, named-below}
+use Rattle.map.proofs.Room.{named-below}
+use Rattle.history.proofs.Addresses.{output-register, overflow-register, count-register, erase-register, manual-register}
 use Rattle.history.proofs.Registers.{Kept, plain, fixed, slot, kept}
 use Rattle.history.proofs.Words.{InScales, reset-word, reset-length}
 use Rattle.history.proofs.Effects.{passed-does}

@@ -4,3 +4,4 @@ pub mod Regions
 pub mod Values
 pub mod Listed
 pub mod Worked
+pub mod Room

@@ -1,9 +1,11 @@
 -- 'Transfers and their numbers'.
+use mathlib.Core.Path.{_≡_}
 use mathlib.Core.Bool.{Bool, true, false, _||_, cond}
 use mathlib.Core.List.{List, [], _∷_}
 use Prim.Native.Nat.{ℕ, zero, suc, _+_}
 use lib.Dec.{ltb, eqb}
 use lib.ListN.{set, length, take}
+use Rattle.word.specs.Lent.{Lent, left}
 use Rattle.map.specs.declared.Access.{Access}
 use Rattle.map.specs.declared.Access.the-variants as A
 use Rattle.map.specs.declared.Found.{Found}
@@ -94,6 +96,10 @@ writeOf st start count ws = cond (badCount count (length ws)) (out st BadCount) 
 abbrev pub written : Out → Written
 written o = record { card = o .state .card; answer = o .answer }
 
+-- and the settings and the tables that it leaves
+abbrev pub Wrote : Out → Written → Lent → Lent → Type 0
+Wrote o r settings tables = (r ≡ written o) × (left settings ≡ o .state .settings) × (left tables ≡ o .state .tables)
+
 -- ---- a read: 'fills the slice's first processed words and has no other effect; the rest of the slice stays'
 
 pub record Filled : Type 0 where
@@ -114,3 +120,7 @@ readIn s k start count ws (At r) = cond (readable (r .access)) (readWords s k st
 
 unfoldable pub readOf : List ℕ → Card → ℕ → ℕ → List ℕ → Filled
 readOf s k start count ws = cond (badCount count (length ws)) (filled ws BadCount) (readIn s k start count ws (regionOf start))
+
+-- the answer handed back, and the words left in the slice
+abbrev pub Reads : Filled → Answer → Lent → Type 0
+Reads f w words = (w ≡ f .answer) × (left words ≡ f .words)

@@ -1,9 +1,11 @@
 -- One word of a transfer: whether it may be written, what it does, and what is read.
+use mathlib.Core.Path.{_≡_}
 use mathlib.Core.Bool.{Bool, true, false, not, _&&_, cond}
 use mathlib.Core.List.{List}
-use Prim.Native.Nat.{ℕ}
+use Prim.Native.Nat.{ℕ, _<_}
 use lib.Dec.{eqb}
 use lib.ListN.{set}
+use Rattle.word.specs.Lent.{Lent, left}
 use Rattle.map.specs.declared.Field.{Field}
 use Rattle.map.specs.declared.Field.the-variants as F
 use Rattle.map.specs.declared.Register.{Register}
@@ -21,6 +23,7 @@ use Rattle.card.specs.Trigger.{triggerOf}
 use Rattle.transfer.specs.declared.Why.the-variants.{Fixed, Value, Held, Running}
 use Rattle.transfer.specs.declared.Verdict.{Verdict}
 use Rattle.transfer.specs.declared.Verdict.the-variants.{Accepted, Refused}
+use Rattle.transfer.specs.declared.Stepped.{Stepped}
 use Rattle.transfer.specs.declared.Effect.{Effect}
 use Rattle.transfer.specs.declared.Effect.the-variants.{Keep, Output, ClearOverflow, ClearCount, Erase, Trigger, Nothing}
 
@@ -121,6 +124,16 @@ performOf st a Erase = state (st .card) (erased (st .settings)) (st .tables)
 performOf st a (Trigger level) = triggerOf st level 0xFE
 performOf st a Nothing = st
 
+-- a word that is kept has its place among the settings lent
+abbrev pub Fits : ℕ → Effect → Type 0
+Fits a (Keep v) = a < 16960
+Fits a (Output c v) = Unit
+Fits a (ClearOverflow c) = Unit
+Fits a (ClearCount level) = Unit
+Fits a Erase = Unit
+Fits a (Trigger level) = Unit
+Fits a Nothing = Unit
+
 -- one word written: its verdict, and the state after it
 pub record One : Type 0 where
   pub state : State
@@ -135,6 +148,11 @@ onVerdict (Refused why) st a v = one st (Refused why)
 
 unfoldable pub writeWord : State → ℕ → ℕ → One
 writeWord st a v = onVerdict (judgeOf (st .settings) (st .card) (registerOf a) v) st a v
+
+-- the card and the verdict handed back, the settings and the tables left
+abbrev pub Steps : One → Stepped → Lent → Lent → Type 0
+Steps o r settings tables =
+    (r .card ≡ o .state .card) × (r .verdict ≡ o .verdict) × (left settings ≡ o .state .settings) × (left tables ≡ o .state .tables)
 
 -- ---- what is read
 

@@ -13,9 +13,9 @@ ghost use lib.ListN.{take, length};
 ghost use Rattle.word.specs.Lent.{lent, left};
 ghost use Rattle.map.specs.Map.{registerOf};
 ghost use Rattle.channel.specs.Channel.{with};
-ghost use Rattle.card.specs.Card.{state};
-ghost use Rattle.transfer.specs.Word.{fixedAt, isLevel, heldAt, runningAt, judgeOf, effectOf, outputTo, overflowCleared, performOf, writeWord, statusOf, readWord};
-ghost use Rattle.transfer.specs.Transfer.{whyNumber, numberOf, processedOf, badCount, writable, readable, written, writeWords, writeOf, readWords, readOf};
+ghost use Rattle.card.specs.Card.{before, LeavesWhole};
+ghost use Rattle.transfer.specs.Word.{Fits, Steps, fixedAt, isLevel, heldAt, runningAt, judgeOf, effectOf, outputTo, overflowCleared, performOf, writeWord, statusOf, readWord};
+ghost use Rattle.transfer.specs.Transfer.{whyNumber, numberOf, processedOf, badCount, writable, readable, Wrote, writeWords, writeOf, Reads, readWords, readOf};
 
 // Why a word is refused.
 pub enum Why {
@@ -67,14 +67,14 @@ pub struct Stepped {
 
 // A write of the first `count` words from an address on.
 pub fn write(
-    settings: &mut [u16],
-    tables: &mut [u16],
+    settings: &mut [u16; 16960],
+    tables: &mut [u16; 512],
     card: Card,
     start: u16,
     count: usize,
     words: &[u16],
 ) -> Written
-    ensures { λ r. ⌜ (r ≡ written (writeOf (state card (lent settings) (lent tables)) start count (lent words))) × (left settings ≡ writeOf (state card (lent settings) (lent tables)) start count (lent words) .state .settings) × (left tables ≡ writeOf (state card (lent settings) (lent tables)) start count (lent words) .state .tables) ⌝ }
+    ensures { λ r. ⌜ Wrote (writeOf (before card settings tables) start count (lent words)) r settings tables ⌝ }
 {
     if bad_count(count, words.len()) {
         return ended(card, Answer::BadCount);
@@ -93,8 +93,14 @@ pub fn write(
 }
 
 // A read of `count` words from an address on, into the first words of the slice.
-pub fn read(settings: &[u16], card: Card, start: u16, count: usize, words: &mut [u16]) -> Answer
-    ensures { λ r. ⌜ (r ≡ readOf (lent settings) card start count (lent words) .answer) × (left words ≡ readOf (lent settings) card start count (lent words) .words) ⌝ }
+pub fn read(
+    settings: &[u16; 16960],
+    card: Card,
+    start: u16,
+    count: usize,
+    words: &mut [u16],
+) -> Answer
+    ensures { λ r. ⌜ Reads (readOf (lent settings) card start count (lent words)) r words ⌝ }
 {
     if bad_count(count, words.len()) {
         return Answer::BadCount;
@@ -195,8 +201,8 @@ fn ended(card: Card, answer: Answer) -> Written
 
 // The words written one after the other, in a region up to `last`.
 fn write_words(
-    settings: &mut [u16],
-    tables: &mut [u16],
+    settings: &mut [u16; 16960],
+    tables: &mut [u16; 512],
     card: Card,
     start: u16,
     last: u16,
@@ -204,7 +210,7 @@ fn write_words(
     count: usize,
 ) -> Written
     requires { ⌜ (count ≤ length (now words)) × (count ≤ 16381) ⌝ }
-    ensures { λ r. ⌜ (r ≡ written (writeWords (state card (lent settings) (lent tables)) start last 0 (take count (lent words)))) × (left settings ≡ writeWords (state card (lent settings) (lent tables)) start last 0 (take count (lent words)) .state .settings) × (left tables ≡ writeWords (state card (lent settings) (lent tables)) start last 0 (take count (lent words)) .state .tables) ⌝ }
+    ensures { λ r. ⌜ Wrote (writeWords (before card settings tables) start last 0 (take count (lent words))) r settings tables ⌝ }
 {
     let mut k = card;
     let mut i: usize = 0;
@@ -229,7 +235,7 @@ fn write_words(
 
 // The words read one after the other.
 fn read_words(
-    settings: &[u16],
+    settings: &[u16; 16960],
     card: Card,
     start: u16,
     last: u16,
@@ -237,7 +243,7 @@ fn read_words(
     count: usize,
 ) -> Answer
     requires { ⌜ count ≤ 16381 ⌝ }
-    ensures { λ r. ⌜ (r ≡ readWords (lent settings) card start last 0 count (lent words) .answer) × (left words ≡ readWords (lent settings) card start last 0 count (lent words) .words) ⌝ }
+    ensures { λ r. ⌜ Reads (readWords (lent settings) card start last 0 count (lent words)) r words ⌝ }
 {
     let mut i: usize = 0;
     while i < count {
@@ -253,13 +259,13 @@ fn read_words(
 
 // One word: judged, and done if it is accepted.
 fn write_word(
-    settings: &mut [u16],
-    tables: &mut [u16],
+    settings: &mut [u16; 16960],
+    tables: &mut [u16; 512],
     card: Card,
     address: u16,
     value: u16,
 ) -> Stepped
-    ensures { λ r. ⌜ (r .card ≡ writeWord (state card (lent settings) (lent tables)) address value .state .card) × (r .verdict ≡ writeWord (state card (lent settings) (lent tables)) address value .verdict) × (left settings ≡ writeWord (state card (lent settings) (lent tables)) address value .state .settings) × (left tables ≡ writeWord (state card (lent settings) (lent tables)) address value .state .tables) ⌝ }
+    ensures { λ r. ⌜ Steps (writeWord (before card settings tables) address value) r settings tables ⌝ }
 {
     let register = map::register_at(address);
     let verdict = judge(settings, card, register, value);
@@ -279,7 +285,7 @@ fn write_word(
 }
 
 // Whether a word may be written, in the paper's order.
-fn judge(settings: &[u16], card: Card, register: Register, value: u16) -> Verdict
+fn judge(settings: &[u16; 16960], card: Card, register: Register, value: u16) -> Verdict
     ensures { λ r. ⌜ r ≡ judgeOf (lent settings) card register value ⌝ }
 {
     if is_fixed(register) {
@@ -307,7 +313,7 @@ fn is_fixed(register: Register) -> bool
 }
 
 // The event belongs to another level.
-fn is_held(settings: &[u16], register: Register, value: u16) -> bool
+fn is_held(settings: &[u16; 16960], register: Register, value: u16) -> bool
     ensures { λ b. ⌜ b ≡ heldAt (lent settings) register value ⌝ }
 {
     match register {
@@ -316,7 +322,7 @@ fn is_held(settings: &[u16], register: Register, value: u16) -> bool
     }
 }
 
-fn held_elsewhere(settings: &[u16], level: usize, value: u16) -> bool
+fn held_elsewhere(settings: &[u16; 16960], level: usize, value: u16) -> bool
     ensures { λ b. ⌜ b ≡ heldAt (lent settings) (Register.Slot level) value ⌝ }
 {
     if value == 0xFE {
@@ -361,17 +367,18 @@ fn effect_of(register: Register, value: u16) -> Effect
 
 // The effect is carried out: the only place where a write changes the card.
 fn perform(
-    settings: &mut [u16],
-    tables: &mut [u16],
+    settings: &mut [u16; 16960],
+    tables: &mut [u16; 512],
     card: Card,
     address: u16,
     effect: Effect,
 ) -> Card
-    ensures { λ r. ⌜ (r ≡ performOf (state card (lent settings) (lent tables)) address effect .card) × (left settings ≡ performOf (state card (lent settings) (lent tables)) address effect .settings) × (left tables ≡ performOf (state card (lent settings) (lent tables)) address effect .tables) ⌝ }
+    requires { ⌜ Fits address effect ⌝ }
+    ensures { λ r. ⌜ LeavesWhole (performOf (before card settings tables) address effect) r settings tables ⌝ }
 {
     match effect {
         Effect::Keep(v) => {
-            word::put(settings, address as usize, v);
+            settings[address as usize] = v;
             card
         }
         Effect::Output(c, v) => card::with_channel(
@@ -439,7 +446,7 @@ fn with_shown(ch: Channel, s: Shown) -> Channel
 }
 
 // The word that is read at an address.
-fn read_word(settings: &[u16], card: Card, address: u16) -> u16
+fn read_word(settings: &[u16; 16960], card: Card, address: u16) -> u16
     ensures { λ r. ⌜ r ≡ readWord (lent settings) card address ⌝ }
 {
     match map::register_at(address) {

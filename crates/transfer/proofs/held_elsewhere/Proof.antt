@@ -23,10 +23,10 @@ enum-told-2 : tie.Need-enum-told-2
 enum-told-2 c = search needs
 
 returns-2 : tie.Need-returns-2
-returns-2 c = rw (ne-eqb _ _ (c .before .before .before .if1 .left)) (told (c .enum-told .given .1) (c .before .before .held-elsewhere .ensures .0))
+returns-2 c = rw (ne-eqb _ _ (c .before .before .before .before .if1 .left)) (told (c .enum-told .given .1) (c .before .before .held-elsewhere .ensures .0))
 
 returns-3 : tie.Need-returns-3
-returns-3 c = rw (ne-eqb _ _ (c .before .before .before .if1 .left)) (told (c .enum-told2 .given .1) (c .before .before .held-elsewhere .ensures .0))
+returns-3 c = rw (ne-eqb _ _ (c .before .before .before .before .if1 .left)) (told (c .enum-told2 .given .1) (c .before .before .held-elsewhere .ensures .0))
 
 pub held-elsewhere-spec : {M : Type 1} → statement M
 held-elsewhere-spec =

@@ -24,12 +24,12 @@ held-elsewhere-requires c κs = search needs
 
 returns : tie.Need-returns
 returns c =
-    let a = c .before .before .before .before .before .args in
+    let a = c .before .before .before .before .args in
     c .held-elsewhere .ensures ∙ ap (held (a .settings .now) (a .value)) (sym (c .before .before .register .given .1))
 
 returns-2 : tie.Need-returns-2
 returns-2 c =
-    let a = c .before .before .args in
+    let a = c .before .args in
     sym (alike (held (a .settings .now) (a .value)) false (but 5) (others (a .settings .now) (a .value)) (a .register) (c .match .keys2))
 
 pub is-held-spec : {M : Type 1} → statement M

@@ -24,4 +24,5 @@ returns-2 : tie.Need-returns-2
 returns-2 c = let a = c .before .args in sym (alike (runningAt (a .card)) false (but 2) (search depth 13) (a .register) (c .match .keys2))
 
 pub is-running-spec : {M : Type 1} → statement M
-is-running-spec = tie.close (tie.spec enum-known-register channel-of-requires runs-requires returns returns-2)
+is-running-spec =
+    tie.close (tie.spec enum-known-register channel-of-requires runs-requires returns returns-2)

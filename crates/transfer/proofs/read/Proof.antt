@@ -11,7 +11,7 @@ bad-count-requires c κs = search needs
 
 returns : tie.Need-returns
 returns c =
-    let a = c .before .before .before .before .args in
+    let a = c .before .before .before .args in
     let e = read-bad (a .start) (a .count) (a .words .now) _ (c .before .bad-count .ensures) (a .settings .now) (a .card) (c .if1 .taken) in
     (ap (λ (f : Filled). f .answer) e, ap (λ (f : Filled). f .words) e)
 
@@ -28,11 +28,11 @@ may-read-requires : tie.Need-may-read-requires
 may-read-requires c κs = search needs
 
 read-words-requires : tie.Need-read-words-requires
-read-words-requires c κs = let a = c .before .before .before .before .before .before .before .before .before .before .before .args in good-count (a .count) _ (c .before .before .before .before .before .before .before .before .bad-count .ensures) (c .before .before .before .before .before .before .before .if1 .left) .1
+read-words-requires c κs = let a = c .before .before .before .before .before .before .before .before .before .before .args in good-count (a .count) _ (c .before .before .before .before .before .before .before .before .bad-count .ensures) (c .before .before .before .before .before .before .before .if1 .left) .1
 
 returns-2 : tie.Need-returns-2
 returns-2 c =
-    let a = c .before .before .before .before .before .before .before .args in
+    let a = c .before .before .before .before .before .before .args in
     let e = read-none (a .start) (a .count) (a .words .now) _ (c .before .before .before .before .bad-count .ensures) (a .settings .now) (a .card) (c .before .before .before .if1 .left) _ (c .before .before .region-of .ensures) (c .enum-told .given .1) in
     (ap (λ (f : Filled). f .answer) e, ap (λ (f : Filled). f .words) e)
 
@@ -41,13 +41,13 @@ same-length c = search needs
 
 returns-3 : tie.Need-returns-3
 returns-3 c =
-    let a = c .before .before .before .before .before .before .before .before .before .before .before .before .before .before .args in
+    let a = c .before .before .before .before .before .before .before .before .before .before .before .before .before .args in
     let e = read-open (a .start) (a .count) (a .words .now) _ (c .before .before .before .before .before .before .before .before .before .before .before .bad-count .ensures) (a .settings .now) (a .card) (c .before .before .before .before .before .before .before .before .before .before .if1 .left) _ (c .before .before .before .before .before .before .before .before .before .region-of .ensures) _ (c .before .before .before .before .before .before .before .r .given .1) _ (c .before .before .before .before .before .may-read .ensures) (c .before .before .before .before .if2 .taken) in
     (c .before .before .read-words .ensures .0 ∙ ap (λ (f : Filled). f .answer) e, c .before .before .read-words .ensures .1 ∙ ap (λ (f : Filled). f .words) e)
 
 returns-4 : tie.Need-returns-4
 returns-4 c =
-    let a = c .before .before .before .before .before .before .before .before .before .before .args in
+    let a = c .before .before .before .before .before .before .before .before .before .args in
     let e = read-shut (a .start) (a .count) (a .words .now) _ (c .before .before .before .before .before .before .before .bad-count .ensures) (a .settings .now) (a .card) (c .before .before .before .before .before .before .if1 .left) _ (c .before .before .before .before .before .region-of .ensures) _ (c .before .before .before .r .given .1) _ (c .before .may-read .ensures) (c .if2 .left) in
     (ap (λ (f : Filled). f .answer) e, ap (λ (f : Filled). f .words) e)
 

@@ -72,32 +72,32 @@ returns : tie.Need-returns
 returns c =
     let a = c .before .before .before .before .args in
     let read = readAt (a .settings .now) (a .card) (a .address) in
-    c .get .ensures ∙ sym (alike read (word (a .settings .now) (a .address)) (0 ∷ 1 ∷ 5 ∷ []) (λ v. refl, (λ v. refl, (λ v. refl, tt))) (c .before .before .register-at .result) (c .before .match .keys1)) ∙ ap read (c .before .before .register-at .ensures)
+    c .get .ensures ∙ sym (alike read (word (a .settings .now) (a .address)) (0 ∷ 1 ∷ 5 ∷ []) (λ v. refl, (λ v. refl, (λ v. refl, tt))) (c .before .before .before .register-at .result) (c .before .before .match .keys1)) ∙ ap read (c .before .before .before .register-at .ensures)
 
 returns-2 : tie.Need-returns-2
-returns-2 c = c .output-of .ensures ∙ ap (λ (x : Channel). x .shown .output) (c .before .channel-of .ensures) ∙ told (c .before .before .before .before .before .before .before .args .settings .now) (c .before .before .before .before .before .before .before .args .card) (c .before .before .before .before .before .before .before .args .address) (c .before .before .before .c .given .1) (c .before .before .before .before .before .register-at .ensures)
+returns-2 c = c .output-of .ensures ∙ ap (λ (x : Channel). x .shown .output) (c .before .channel-of .ensures) ∙ told (c .before .before .before .before .before .before .args .settings .now) (c .before .before .before .before .before .before .args .card) (c .before .before .before .before .before .before .args .address) (c .before .before .before .c .given .1) (c .before .before .before .before .before .register-at .ensures)
 
 returns-3 : tie.Need-returns-3
-returns-3 c = c .status-of .ensures ∙ ap (λ (x : Channel). statusOf x (c .before .before .before .c2 .given .0 .1 .0)) (c .before .channel-of2 .ensures) ∙ told (c .before .before .before .before .before .before .before .args .settings .now) (c .before .before .before .before .before .before .before .args .card) (c .before .before .before .before .before .before .before .args .address) (c .before .before .before .c2 .given .1) (c .before .before .before .before .before .register-at .ensures)
+returns-3 c = c .status-of .ensures ∙ ap (λ (x : Channel). statusOf x (c .before .before .before .c2 .given .0 .1 .0)) (c .before .channel-of2 .ensures) ∙ told (c .before .before .before .before .before .before .args .settings .now) (c .before .before .before .before .before .before .args .card) (c .before .before .before .before .before .before .args .address) (c .before .before .before .c2 .given .1) (c .before .before .before .before .before .register-at .ensures)
 
 returns-4 : tie.Need-returns-4
-returns-4 c = c .overflow-of .ensures ∙ ap (λ (x : Channel). x .shown .overflow) (c .before .channel-of3 .ensures) ∙ told (c .before .before .before .before .before .before .before .args .settings .now) (c .before .before .before .before .before .before .before .args .card) (c .before .before .before .before .before .before .before .args .address) (c .before .before .before .c3 .given .1) (c .before .before .before .before .before .register-at .ensures)
+returns-4 c = c .overflow-of .ensures ∙ ap (λ (x : Channel). x .shown .overflow) (c .before .channel-of3 .ensures) ∙ told (c .before .before .before .before .before .before .args .settings .now) (c .before .before .before .before .before .before .args .card) (c .before .before .before .before .before .before .args .address) (c .before .before .before .c3 .given .1) (c .before .before .before .before .before .register-at .ensures)
 
 returns-5 : tie.Need-returns-5
-returns-5 c = c .image .ensures ∙ told (c .before .before .before .before .before .before .args .settings .now) (c .before .before .before .before .before .before .args .card) (c .before .before .before .before .before .before .args .address) (c .before .before .e .given .1) (c .before .before .before .before .register-at .ensures)
+returns-5 c = c .image .ensures ∙ told (c .before .before .before .before .before .before .args .settings .now) (c .before .before .before .before .before .before .args .card) (c .before .before .before .before .before .before .args .address) (c .before .before .before .e .given .1) (c .before .before .before .before .before .register-at .ensures)
 
 returns-6 : tie.Need-returns-6
-returns-6 c = told (c .before .before .before .before .args .settings .now) (c .before .before .before .before .args .card) (c .before .before .before .before .args .address) (c .enum-told .given .1) (c .before .before .register-at .ensures)
+returns-6 c = told (c .before .before .before .args .settings .now) (c .before .before .before .args .card) (c .before .before .before .args .address) (c .enum-told .given .1) (c .before .before .register-at .ensures)
 
 returns-7 : tie.Need-returns-7
-returns-7 c = told (c .before .before .before .before .args .settings .now) (c .before .before .before .before .args .card) (c .before .before .before .before .args .address) (c .enum-told2 .given .1) (c .before .before .register-at .ensures)
+returns-7 c = told (c .before .before .before .args .settings .now) (c .before .before .before .args .card) (c .before .before .before .args .address) (c .enum-told2 .given .1) (c .before .before .register-at .ensures)
 
 returns-8 : tie.Need-returns-8
-returns-8 c = c .count-of .ensures ∙ told (c .before .before .before .before .before .before .args .settings .now) (c .before .before .before .before .before .before .args .card) (c .before .before .before .before .before .before .args .address) (c .before .before .level .given .1) (c .before .before .before .before .register-at .ensures)
+returns-8 c = c .count-of .ensures ∙ told (c .before .before .before .before .before .args .settings .now) (c .before .before .before .before .before .args .card) (c .before .before .before .before .before .args .address) (c .before .before .level .given .1) (c .before .before .before .before .register-at .ensures)
 
 returns-9 : tie.Need-returns-9
 returns-9 c =
-    let a = c .before .before .before .args in
+    let a = c .before .before .args in
     let read = readAt (a .settings .now) (a .card) (a .address) in
     sym (alike read 0 (7 ∷ 8 ∷ 12 ∷ []) (λ v. refl, (λ v. refl, (λ v. refl, tt))) (c .before .register-at .result) (c .match .keys9)) ∙ ap read (c .before .register-at .ensures)
 

@@ -17,7 +17,7 @@ abbrev μ-loop : tie.MeasureT-loop
 μ-loop settings card start last words₀ count i₀ words i = count - i
 
 loop-holds : tie.Need-loop-holds Inv-loop μ-loop
-loop-holds c = let a = c .before .before .args in (search needs, read-start (a .settings .now) (a .card) (a .start) (a .last) (a .count) 0 (a .words .now), refl)
+loop-holds c = let a = c .before .args in (search needs, read-start (a .settings .now) (a .card) (a .start) (a .last) (a .count) 0 (a .words .now), refl)
 
 add-a : tie.Need-add-a Inv-loop μ-loop
 add-a c = search needs
@@ -27,7 +27,7 @@ same-length c = search needs
 
 returns : tie.Need-returns Inv-loop μ-loop
 returns c =
-    let a = c .before .before .before .before .before .args in
+    let a = c .before .before .before .before .args in
     let t = c .before .before .loop in
     let e = sym (read-beyond (a .settings .now) (a .card) (a .start) (a .last) (a .count) (t .i) (t .words) (c .before .loop-test .taken) (c .if1 .taken)) ∙ t .inv .1 in
     (ap (λ (f : Filled). f .answer) e, ap (λ (f : Filled). f .words) e)
@@ -49,7 +49,7 @@ loop-less c = search needs
 
 loop-again : tie.Need-loop-again Inv-loop μ-loop
 loop-again c =
-    let a = c .before .before .before .before .before .before .before .before .before .before .args in
+    let a = c .before .before .before .before .before .before .before .before .before .args in
     let t = c .before .before .before .before .before .before .before .loop in
     (omega (arith, c .before .before .before .before .before .before .loop-test .taken), read-on (a .settings .now) (a .card) (a .start) (a .last) (a .count) (t .i) (t .words) (c .before .before .before .before .before .before .loop-test .taken) (c .before .before .before .before .before .if1 .left) _ (c .before .before .before .read-word .ensures) _ (c .before .before .put .ensures) ∙ t .inv .1, c .before .before .put .kept .0 ∙ t .inv .2)
 
@@ -58,7 +58,7 @@ same-length-2 c = search needs
 
 returns-2 : tie.Need-returns-2 Inv-loop μ-loop
 returns-2 c =
-    let a = c .before .before .before .before .args in
+    let a = c .before .before .before .args in
     let t = c .before .loop in
     let e = sym (read-end (a .settings .now) (a .card) (a .start) (a .last) (a .count) (t .i) (t .words) (le-antisymm (t .inv .0) (c .loop-test .left))) ∙ t .inv .1 in
     (ap (λ (f : Filled). f .answer) e, ap (λ (f : Filled). f .words) e)

@@ -15,7 +15,7 @@ ended-requires c κs = search needs
 
 returns : tie.Need-returns
 returns c =
-    let a = c .before .before .before .before .before .before .args in
+    let a = c .before .before .before .before .args in
     let st : State = state (a .card) (a .settings .now) (a .tables .now) in
     let e = write-bad (a .start) (a .count) (a .words .now) _ (c .before .before .bad-count .ensures) st (c .before .if1 .taken) in
     (c .ended .ensures ∙ ap written e, ap (λ (o : Out). o .state .settings) e, ap (λ (o : Out). o .state .tables) e)
@@ -36,34 +36,28 @@ may-write-requires : tie.Need-may-write-requires
 may-write-requires c κs = search needs
 
 write-words-requires : tie.Need-write-words-requires
-write-words-requires c κs = let a = c .before .before .before .before .before .before .before .before .before .before .before .before .before .args in good-count (a .count) _ (c .before .before .before .before .before .before .before .before .before .bad-count .ensures) (c .before .before .before .before .before .before .before .before .if1 .left)
+write-words-requires c κs = let a = c .before .before .before .before .before .before .before .before .before .before .before .args in good-count (a .count) _ (c .before .before .before .before .before .before .before .before .before .bad-count .ensures) (c .before .before .before .before .before .before .before .before .if1 .left)
 
 ended-requires-3 : tie.Need-ended-requires-3
 ended-requires-3 c κs = search needs
 
 returns-2 : tie.Need-returns-2
 returns-2 c =
-    let a = c .before .before .before .before .before .before .before .before .before .args in
+    let a = c .before .before .before .before .before .before .before .args in
     let st : State = state (a .card) (a .settings .now) (a .tables .now) in
     let e = write-none (a .start) (a .count) (a .words .now) _ (c .before .before .before .before .before .bad-count .ensures) st (c .before .before .before .before .if1 .left) _ (c .before .before .before .region-of .ensures) (c .before .enum-told .given .1) in
     (c .ended2 .ensures ∙ ap written e, ap (λ (o : Out). o .state .settings) e, ap (λ (o : Out). o .state .tables) e)
 
-same-length : tie.Need-same-length
-same-length c = search needs
-
-same-length-2 : tie.Need-same-length-2
-same-length-2 c = search needs
-
 returns-3 : tie.Need-returns-3
 returns-3 c =
-    let a = c .before .before .before .before .before .before .before .before .before .before .before .before .before .before .before .before .before .before .args in
+    let a = c .before .before .before .before .before .before .before .before .before .before .before .before .args in
     let st : State = state (a .card) (a .settings .now) (a .tables .now) in
-    let e = write-open (a .start) (a .count) (a .words .now) _ (c .before .before .before .before .before .before .before .before .before .before .before .before .before .before .bad-count .ensures) st (c .before .before .before .before .before .before .before .before .before .before .before .before .before .if1 .left) _ (c .before .before .before .before .before .before .before .before .before .before .before .before .region-of .ensures) _ (c .before .before .before .before .before .before .before .before .before .before .r .given .1) _ (c .before .before .before .before .before .before .before .before .may-write .ensures) (c .before .before .before .before .before .before .before .if2 .taken) in
-    (c .before .before .before .before .write-words .ensures .0 ∙ ap written e, c .before .before .before .before .write-words .ensures .1 ∙ ap (λ (o : Out). o .state .settings) e, c .before .before .before .before .write-words .ensures .2 ∙ ap (λ (o : Out). o .state .tables) e)
+    let e = write-open (a .start) (a .count) (a .words .now) _ (c .before .before .before .before .before .before .before .before .before .before .bad-count .ensures) st (c .before .before .before .before .before .before .before .before .before .if1 .left) _ (c .before .before .before .before .before .before .before .before .region-of .ensures) _ (c .before .before .before .before .before .before .r .given .1) _ (c .before .before .before .before .may-write .ensures) (c .before .before .before .if2 .taken) in
+    (c .write-words .ensures .0 ∙ ap written e, c .write-words .ensures .1 ∙ ap (λ (o : Out). o .state .settings) e, c .write-words .ensures .2 ∙ ap (λ (o : Out). o .state .tables) e)
 
 returns-4 : tie.Need-returns-4
 returns-4 c =
-    let a = c .before .before .before .before .before .before .before .before .before .before .before .before .args in
+    let a = c .before .before .before .before .before .before .before .before .before .before .args in
     let st : State = state (a .card) (a .settings .now) (a .tables .now) in
     let e = write-shut (a .start) (a .count) (a .words .now) _ (c .before .before .before .before .before .before .before .before .bad-count .ensures) st (c .before .before .before .before .before .before .before .if1 .left) _ (c .before .before .before .before .before .before .region-of .ensures) _ (c .before .before .before .before .r .given .1) _ (c .before .before .may-write .ensures) (c .before .if2 .left) in
     (c .ended3 .ensures ∙ ap written e, ap (λ (o : Out). o .state .settings) e, ap (λ (o : Out). o .state .tables) e)
@@ -83,7 +77,5 @@ write-spec =
     write-words-requires
     ended-requires-3
     returns-2
-    same-length
-    same-length-2
     returns-3
     returns-4)

@@ -13,13 +13,13 @@ use Rattle.transfer.proofs.write_words.Statement.{statement}
 use Rattle.transfer.proofs.write_words.Tie as tie
 
 abbrev Inv-loop : tie.InvT-loop
-Inv-loop settings₀ tables₀ start last words count k₀ i₀ settings tables k i = (i ≤ count) × (writeWords (state k settings tables) (start + i) last i (drop i (take count words)) ≡ writeWords (state k₀ settings₀ tables₀) start last 0 (take count words)) × (length settings ≡ length settings₀) × (length tables ≡ length tables₀)
+Inv-loop settings₀ tables₀ start last words count k₀ i₀ settings tables k i = (i ≤ count) × (writeWords (state k settings tables) (start + i) last i (drop i (take count words)) ≡ writeWords (state k₀ settings₀ tables₀) start last 0 (take count words))
 
 abbrev μ-loop : tie.MeasureT-loop
 μ-loop settings₀ tables₀ start last words count k₀ i₀ settings tables k i = count - i
 
 loop-holds : tie.Need-loop-holds Inv-loop μ-loop
-loop-holds c = let a = c .before .before .before .args in (search needs, write-start (state (a .card) (a .settings .now) (a .tables .now)) (a .start) (a .last) (a .words .now) (a .count) 0 (c .before .before .before .pre .0), refl, refl)
+loop-holds c = let a = c .before .args in (search needs, write-start (state (a .card) (a .settings .now) (a .tables .now)) (a .start) (a .last) (a .words .now) (a .count) 0 (c .before .pre .0))
 
 add-a : tie.Need-add-a Inv-loop μ-loop
 add-a c = search needs
@@ -27,17 +27,11 @@ add-a c = search needs
 ended-requires : tie.Need-ended-requires Inv-loop μ-loop
 ended-requires c κs = search needs
 
-same-length : tie.Need-same-length Inv-loop μ-loop
-same-length c = search needs
-
-same-length-2 : tie.Need-same-length-2 Inv-loop μ-loop
-same-length-2 c = search needs
-
 returns : tie.Need-returns Inv-loop μ-loop
 returns c =
-    let a = c .before .before .before .before .before .before .before .args in
+    let a = c .before .before .before .before .before .args in
     let t = c .before .before .before .loop in
-    let e = sym (write-beyond (state (t .k) (t .settings) (t .tables)) (a .start) (a .last) (a .words .now) (a .count) (t .i) (c .before .before .before .before .before .before .before .pre .0) (c .before .before .loop-test .taken) (c .before .if1 .taken)) ∙ t .inv .1 in
+    let e = sym (write-beyond (state (t .k) (t .settings) (t .tables)) (a .start) (a .last) (a .words .now) (a .count) (t .i) (c .before .before .before .before .before .pre .0) (c .before .before .loop-test .taken) (c .before .if1 .taken)) ∙ t .inv .1 in
     (c .ended .ensures ∙ ap written e, ap (λ (o : Out). o .state .settings) e, ap (λ (o : Out). o .state .tables) e)
 
 cast-write-word : tie.Need-cast-write-word Inv-loop μ-loop
@@ -58,21 +52,15 @@ enum-known-v c = search needs
 ended-requires-2 : tie.Need-ended-requires-2 Inv-loop μ-loop
 ended-requires-2 c κs = search needs
 
-same-length-3 : tie.Need-same-length-3 Inv-loop μ-loop
-same-length-3 c = search needs
-
-same-length-4 : tie.Need-same-length-4 Inv-loop μ-loop
-same-length-4 c = search needs
-
 returns-2 : tie.Need-returns-2 Inv-loop μ-loop
 returns-2 c =
-    let a = c .before .before .before .before .before .before .before .before .before .before .before .before .before .before .before .before .before .before .before .args in
-    let t = c .before .before .before .before .before .before .before .before .before .before .before .before .before .before .before .loop in
+    let a = c .before .before .before .before .before .before .before .before .before .before .before .before .before .args in
+    let t = c .before .before .before .before .before .before .before .before .before .before .before .loop in
     let st : State = state (t .k) (t .settings) (t .tables) in
-    let w = c .before .before .before .before .before .before .before .before .before .write-word in
+    let w = c .before .before .before .before .before .write-word in
     let o : One = one (state (w .result .card) (w .last .0) (w .last .1 .0)) (w .result .verdict) in
-    let is : o ≡ writeWord st (a .start + t .i) (getD (a .words .now) (t .i) 0) = made _ (w .ensures .0) (w .ensures .1) (w .ensures .2) (w .ensures .3) ∙ ap (writeWord st (a .start + t .i)) (c .before .before .before .before .before .before .before .before .before .before .get .ensures) in
-    let e = sym (write-stop st (a .start) (a .last) (a .words .now) (a .count) (t .i) (c .before .before .before .before .before .before .before .before .before .before .before .before .before .before .before .before .before .before .before .pre .0) (c .before .before .before .before .before .before .before .before .before .before .before .before .before .before .loop-test .taken) (c .before .before .before .before .before .before .before .before .before .before .before .before .before .if1 .left) o is _ (c .before .before .v .given .1)) ∙ t .inv .1 in
+    let is : o ≡ writeWord st (a .start + t .i) (getD (a .words .now) (t .i) 0) = made _ (w .ensures .0) (w .ensures .1) (w .ensures .2) (w .ensures .3) ∙ ap (writeWord st (a .start + t .i)) (c .before .before .before .before .before .before .get .ensures) in
+    let e = sym (write-stop st (a .start) (a .last) (a .words .now) (a .count) (t .i) (c .before .before .before .before .before .before .before .before .before .before .before .before .before .pre .0) (c .before .before .before .before .before .before .before .before .before .before .loop-test .taken) (c .before .before .before .before .before .before .before .before .before .if1 .left) o is _ (c .before .before .v .given .1)) ∙ t .inv .1 in
     (c .ended2 .ensures ∙ ap written e, ap (λ (x : Out). x .state .settings) e, ap (λ (x : Out). x .state .tables) e)
 
 add-i : tie.Need-add-i Inv-loop μ-loop
@@ -83,29 +71,23 @@ loop-less c = search needs
 
 loop-again : tie.Need-loop-again Inv-loop μ-loop
 loop-again c =
-    let a = c .before .before .before .before .before .before .before .before .before .before .before .before .before .before .before .before .before .args in
-    let t = c .before .before .before .before .before .before .before .before .before .before .before .before .before .loop in
+    let a = c .before .before .before .before .before .before .before .before .before .before .before .args in
+    let t = c .before .before .before .before .before .before .before .before .before .loop in
     let st : State = state (t .k) (t .settings) (t .tables) in
-    let w = c .before .before .before .before .before .before .before .write-word in
+    let w = c .before .before .before .write-word in
     let o : One = one (state (w .result .card) (w .last .0) (w .last .1 .0)) (w .result .verdict) in
-    let is : o ≡ writeWord st (a .start + t .i) (getD (a .words .now) (t .i) 0) = made _ (w .ensures .0) (w .ensures .1) (w .ensures .2) (w .ensures .3) ∙ ap (writeWord st (a .start + t .i)) (c .before .before .before .before .before .before .before .before .get .ensures) in
-    let on = write-on st (a .start) (a .last) (a .words .now) (a .count) (t .i) (c .before .before .before .before .before .before .before .before .before .before .before .before .before .before .before .before .before .pre .0) (c .before .before .before .before .before .before .before .before .before .before .before .before .loop-test .taken) (c .before .before .before .before .before .before .before .before .before .before .before .if1 .left) o is (c .enum-told .given .1) in
-    (omega (arith, c .before .before .before .before .before .before .before .before .before .before .before .before .loop-test .taken), on ∙ t .inv .1, w .kept .0 ∙ t .inv .2, w .kept .1 .0 ∙ t .inv .3)
+    let is : o ≡ writeWord st (a .start + t .i) (getD (a .words .now) (t .i) 0) = made _ (w .ensures .0) (w .ensures .1) (w .ensures .2) (w .ensures .3) ∙ ap (writeWord st (a .start + t .i)) (c .before .before .before .before .get .ensures) in
+    let on = write-on st (a .start) (a .last) (a .words .now) (a .count) (t .i) (c .before .before .before .before .before .before .before .before .before .before .before .pre .0) (c .before .before .before .before .before .before .before .before .loop-test .taken) (c .before .before .before .before .before .before .before .if1 .left) o is (c .enum-told .given .1) in
+    (omega (arith, c .before .before .before .before .before .before .before .before .loop-test .taken), on ∙ t .inv .1)
 
 ended-requires-3 : tie.Need-ended-requires-3 Inv-loop μ-loop
 ended-requires-3 c κs = search needs
 
-same-length-5 : tie.Need-same-length-5 Inv-loop μ-loop
-same-length-5 c = search needs
-
-same-length-6 : tie.Need-same-length-6 Inv-loop μ-loop
-same-length-6 c = search needs
-
 returns-3 : tie.Need-returns-3 Inv-loop μ-loop
 returns-3 c =
-    let a = c .before .before .before .before .before .before .args in
+    let a = c .before .before .before .before .args in
     let t = c .before .before .loop in
-    let e = sym (write-end (state (t .k) (t .settings) (t .tables)) (a .start) (a .last) (a .words .now) (a .count) (t .i) (c .before .before .before .before .before .before .pre .0) (le-antisymm (t .inv .0) (c .before .loop-test .left))) ∙ t .inv .1 in
+    let e = sym (write-end (state (t .k) (t .settings) (t .tables)) (a .start) (a .last) (a .words .now) (a .count) (t .i) (c .before .before .before .before .pre .0) (le-antisymm (t .inv .0) (c .before .loop-test .left))) ∙ t .inv .1 in
     (c .ended3 .ensures ∙ ap written e, ap (λ (o : Out). o .state .settings) e, ap (λ (o : Out). o .state .tables) e)
 
 pub write-words-spec : {M : Type 1} → statement M
@@ -117,8 +99,6 @@ write-words-spec =
     loop-holds
     add-a
     ended-requires
-    same-length
-    same-length-2
     returns
     cast-write-word
     get-requires
@@ -126,13 +106,9 @@ write-words-spec =
     enum-told
     enum-known-v
     ended-requires-2
-    same-length-3
-    same-length-4
     returns-2
     add-i
     loop-less
     loop-again
     ended-requires-3
-    same-length-5
-    same-length-6
     returns-3)
