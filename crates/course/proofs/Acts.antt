@@ -41,7 +41,7 @@ module _ (s l : List ℕ) (c : ℕ) (ch : Channel) where
   unfolding tickAt countTo
   tick-level-in Rest = refl
   tick-level-in (Counting n older) = choose SameLevel (eqb (n .0 - 1) 0) _ _ start-level (choose SameLevel (eqb (n .0 - 1) lead) _ _ load-level refl)
-  tick-level-in (Running p t) = refl
+  tick-level-in (Running w) = refl
 
   pub tick-level : tickOf s l c ch .channel .level ≡ ch .level
   tick-level = tick-level-in (ch .phase)
@@ -68,7 +68,7 @@ module _ (s l : List ℕ) (c : ℕ) (ch : Channel) where
   unfolding tickAt
   tick-kept-in Rest h = record { loaded = refl; tables = refl }
   tick-kept-in (Counting n older) h = count-kept (n .0) older (h (n .0) older refl)
-  tick-kept-in (Running p t) h = record { loaded = refl; tables = refl }
+  tick-kept-in (Running w) h = record { loaded = refl; tables = refl }
 
   -- unless the countdown stands at 11, a tick changes neither what is loaded nor the tables
   pub tick-kept : ((n : ℕ) (older : Ramp) → ch .phase ≡ Counting (record { 0 = n }) older → n ≡ 11 → ⊥) → Kept (tickOf s l c ch)

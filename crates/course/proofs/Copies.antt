@@ -75,7 +75,7 @@ module _ (s l : List ℕ) (c : ℕ) (ch : Channel) where
     unfolding tickAt
     tick-tables Rest q = p
     tick-tables (Counting n older) q = count-tables (n .0 - 1) older q
-    tick-tables (Running r t) q = p
+    tick-tables (Running w) q = p
 
     trigger-tables : (level : ℕ) → ((from : ℕ) → P (copied 128 s from l (firstOf c))) → P (triggered s l c ch level .tables)
     unfolding triggered

@@ -19,7 +19,7 @@ use Rattle.channel.specs.declared.Ramp.the-variants.{Still, Going}
 use Rattle.channel.specs.declared.Phase.{Phase}
 use Rattle.channel.specs.declared.Phase.the-variants.{Rest, Counting, Running}
 use Rattle.channel.specs.declared.Channel.{Channel}
-use Rattle.channel.specs.Ramp.{enter, next, give, given, advance}
+use Rattle.channel.specs.Ramp.{enter, next, give, way, given, advance}
 use Rattle.channel.specs.Channel.{Side, side, word, firstOf, with, phaseOf, loadedFor, blank, load, start, countTo, tickAt, tickOf}
 use Rattle.channel.proofs.Counts as counts
 use Rattle.course.specs.Points.{SameTable}
@@ -34,7 +34,7 @@ use Rattle.course.proofs.Walk.{placed, place-first, place-step, place-m
 
 -- a ramp after the sample at place p: it goes on, or rests at the end point
 abbrev onward : Place → Phase
-onward p = phaseOf (cond (eqb (p .left .0) 0) Still (Going p (record { 0 = 10 })))
+onward p = phaseOf (cond (eqb (p .left .0) 0) Still (Going (way p 10 10)))
 
 module _ (s l : List ℕ) (c : ℕ) (ch : Channel) where
   counting : (n : ℕ) (o : Ramp) → ch .phase ≡ Counting (record { 0 = n }) o → tickOf s l c ch ≡ countTo (n - 1) o s l c ch
@@ -59,12 +59,12 @@ module _ (s l : List ℕ) (c : ℕ) (ch : Channel) where
   unfolding start given
   tick-start n o e h g = counting n o e ∙ counts.at-start s l c ch o n h ∙ rw g
 
-  tick-wait : (p : Place) (r : ℕ) → ch .phase ≡ Running p (record { 0 = r }) → 1 < r
-      → tickOf s l c ch ≡ side (with ch (Running p (record { 0 = r - 1 })) (ch .shown)) l
+  tick-wait : (p : Place) (r : ℕ) → ch .phase ≡ Running (way p r 10) → 1 < r
+      → tickOf s l c ch ≡ side (with ch (Running (way p (r - 1) 10)) (ch .shown)) l
   unfolding tickAt advance
   tick-wait p r e h = rw (e, lt-ltb 1 r h)
 
-  tick-give : (p : Place) (r : ℕ) → ch .phase ≡ Running p (record { 0 = r }) → r ≤ 1
+  tick-give : (p : Place) (r : ℕ) → ch .phase ≡ Running (way p r 10) → r ≤ 1
       → tickOf s l c ch ≡ side (with ch (onward (next l (firstOf c) p)) (give l (firstOf c) (ch .loaded) (next l (firstOf c) p) (ch .shown))) l
   unfolding tickAt advance given
   tick-give p r e h = rw (e, le-ltb 1 r h)
@@ -100,7 +100,7 @@ module _ (c v : ℕ) (w : List ℕ) (a d : ℕ) where
     starts : (n : ℕ) → t + n ≡ d → 1 ≤ n → n ≤ 10 → Held x → x .channel .phase ≡ Counting (record { 0 = n }) Still → Course t x
     -- sample k was the last, and the next comes in r ticks
     runs : (k r : ℕ) → a ≡ 1 → t + r ≡ d + 10 * (k + 1) → 1 ≤ r → r ≤ 10 → k < T → Held x
-        → x .channel .phase ≡ Running (spot k) (record { 0 = r }) → Course t x
+        → x .channel .phase ≡ Running (way (spot k) r 10) → Course t x
     -- the end was reached
     rests : a ≡ 1 → d + 10 * T ≤ t → Held x → x .channel .phase ≡ Rest → Course t x
     -- nothing started
@@ -169,7 +169,7 @@ module _ (c v : ℕ) (w : List ℕ) (a d : ℕ) where
         same-give (x .tables) (firstOf c) w from (h .table) (loadedFor w c v) (spot 0) (x .channel .shown) (placed w from 0),
       )
 
-  next-given : (z : List ℕ) (x : Side) (k r : ℕ) → Held x → x .channel .phase ≡ Running (spot k) (record { 0 = r }) → r ≤ 1 → k < T
+  next-given : (z : List ℕ) (x : Side) (k r : ℕ) → Held x → x .channel .phase ≡ Running (way (spot k) r 10) → r ≤ 1 → k < T
       → next-tick z x ≡ side (with (x .channel) (onward (spot (k + 1))) (sampleFor w c v (k + 1) (x .channel .shown))) (x .tables)
   next-given z x k r h f g i =
       rw (

@@ -13,6 +13,7 @@ use Rattle.map.specs.Addresses.{delayAt, enableAt}
 use Rattle.channel.specs.declared.Channel.{Channel}
 use Rattle.channel.specs.declared.Ramp.the-variants.{Still}
 use Rattle.channel.specs.declared.Phase.the-variants.{Rest, Counting, Running}
+use Rattle.channel.specs.Ramp.{way}
 use Rattle.channel.specs.Channel.{Side, side, word, rampOf, load, countdown, triggered}
 use Rattle.channel.proofs.Counts as counts
 use Rattle.course.specs.Course.{Act, Tick, act, run, ticksIn, heldOn}
@@ -87,7 +88,7 @@ module _ (s l : List ℕ) (c : ℕ) (ch : Channel) (v : ℕ) (room : 128 * c + 1
   count-of h n g u x (off y i e f) = absurd (omega arith)
 
   run-of : a ≡ 1 → (k j : ℕ) → k < totalFor w c v → j < 10 → ticksIn xs ≡ d + 10 * k + j
-      → (x : Side) → Course c v w a d (ticksIn xs) x → x .channel .phase ≡ Running (placeFor w c v k) (record { 0 = 10 - j })
+      → (x : Side) → Course c v w a d (ticksIn xs) x → x .channel .phase ≡ Running (way (placeFor w c v k) (10 - j) 10)
   run-of y k j h g u x (waits n o q p e f) = absurd (omega arith)
   run-of y k j h g u x (starts n q p b e f) = absurd (omega arith)
   run-of y k j h g u x (runs i r t q p b m e f) =

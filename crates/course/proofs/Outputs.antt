@@ -15,7 +15,7 @@ use Rattle.channel.specs.declared.Shown.{Shown}
 use Rattle.channel.specs.declared.Phase.{Phase}
 use Rattle.channel.specs.declared.Phase.the-variants.{Running}
 use Rattle.channel.specs.declared.Channel.{Channel}
-use Rattle.channel.specs.Ramp.{put}
+use Rattle.channel.specs.Ramp.{put, way}
 use Rattle.channel.specs.Channel.{Side, word, rampOf, going, countdown, triggered}
 use Rattle.course.specs.Course.{Act, Tick, Elsewhere, Output, Clear, act, run, ticksIn, until, heldOn}
 use Rattle.course.specs.Follows.{totalFor, sampleFor}
@@ -30,7 +30,7 @@ put-output (Word v) p s = refl
 put-output Overflow p s = refl
 
 -- a word written to the output, or anything else that is no tick, leaves the output of a running channel
-written-output : (c o : ℕ) (x : Side) (p : Place) (r : ℕ) → x .channel .phase ≡ Running p (record { 0 = r })
+written-output : (c o : ℕ) (x : Side) (p : Place) (r : ℕ) → x .channel .phase ≡ Running (way p r 10)
     → act c x (Output o) .channel .shown .output ≡ x .channel .shown .output
 written-output c o x p r f =
     ap (λ (ch : Channel). ch .shown .output) (not-written o (x .channel) (ap (λ (q : Phase). going (rampOf q)) f))

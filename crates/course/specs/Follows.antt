@@ -9,7 +9,7 @@ use Rattle.channel.specs.declared.Shown.{Shown}
 use Rattle.channel.specs.declared.Channel.{Channel}
 use Rattle.channel.specs.declared.Ramp.the-variants.{Still}
 use Rattle.channel.specs.declared.Phase.the-variants.{Rest, Counting, Running}
-use Rattle.channel.specs.Ramp.{give}
+use Rattle.channel.specs.Ramp.{give, way}
 use Rattle.channel.specs.Channel.{Side, word, firstOf, loadedFor, blank, countdown, triggered}
 use Rattle.course.specs.Points.{total, placeOf, SameTable}
 use Rattle.course.specs.Course.{Act, Tick, act, run, ticksIn, heldOn}
@@ -42,8 +42,8 @@ pub record Follows (c level d : ℕ) (s : List ℕ) (a t : ℕ) (now later : Sid
   pub silent : d ≤ t + 10 → (a ≡ 1 → (k : ℕ) → k ≤ totalFor s c level → t + 1 ≡ d + 10 * k → ⊥) → later .channel .shown ≡ now .channel .shown
   -- from tick d − 10 until tick d it counts, and no ramp runs
   pub counts : d ≤ t + 10 → (n : ℕ) → 1 ≤ n → t + n ≡ d → now .channel .phase ≡ Counting (record { 0 = n }) Still
-  -- from tick d to tick d + 10 T the ramp runs
-  pub runs : a ≡ 1 → (k j : ℕ) → k < totalFor s c level → j < 10 → t ≡ d + 10 * k + j → now .channel .phase ≡ Running (placeFor s c level k) (record { 0 = 10 - j })
+  -- from tick d to tick d + 10 T the ramp runs, a sample every 10 microseconds
+  pub runs : a ≡ 1 → (k j : ℕ) → k < totalFor s c level → j < 10 → t ≡ d + 10 * k + j → now .channel .phase ≡ Running (way (placeFor s c level k) (10 - j) 10)
   -- from tick d + 10 T on it rests
   pub rests : a ≡ 1 → d + 10 * totalFor s c level ≤ t → now .channel .phase ≡ Rest
   -- not enabled on tick d: nothing starts

@@ -10,7 +10,7 @@ use lib.Dec.{ltb, eqb}
 use lib.IntN.{ℤ, pos, negsuc, negℤ}
 use lib.Signed.{ltZ}
 use borrow.Author.Tests.{ltb-true, ltb-false, leb-true, eqb-false}
-use Rattle.word.specs.Word.{grown, lasting}
+use Rattle.word.specs.Word.{grown}
 use Rattle.word.specs.Table.{stepAt, isEnd}
 use Rattle.map.specs.Addresses.{tableAt, rampMapAt, scaleMapAt, scaleAt, offsetMapAt, offsetAt, delayAt, enableAt}
 use Rattle.map.proofs.Values.{accepted-is}
@@ -27,7 +27,7 @@ use Rattle.channel.specs.declared.Ramp.the-variants.{Still, Going}
 use Rattle.channel.specs.declared.Phase.{Phase}
 use Rattle.channel.specs.declared.Phase.the-variants.{Rest, Counting, Running}
 use Rattle.channel.specs.declared.Channel.{Channel}
-use Rattle.channel.specs.Ramp.{place, enter, next, sampleAt, put, give, given, advance}
+use Rattle.channel.specs.Ramp.{place, enter, next, sampleAt, put, give, way, given, advance}
 use Rattle.channel.specs.Channel.{Side, side, with, word, firstOf, lead, rampOf, phaseOf, copied, load, start, countTo, tickAt, tickOf, countdown, triggered}
 use Rattle.course.proofs.Copies.{choose, copied-length}
 use Rattle.course.proofs.Tables.{Placed}
@@ -76,16 +76,16 @@ module _ (w : List ℕ) (first : ℕ) where
     ramp : RampSound (m .ramp)
     shown : ShownSound (m .shown)
 
-  given-sound : (l : Loaded) (p : Place) (s : Shown) → At p → ShownSound s → MovedSound (given w first l p s)
+  given-sound : (l : Loaded) (p : Place) (s : Shown) → At p → ShownSound s → MovedSound (given w first l 10 p s)
   unfolding given
   given-sound l p s a h = record { ramp = go (eqb (p .left .0) 0) refl; shown = give-sound l p s a h }
     where
-      go : (b : Bool) → eqb (p .left .0) 0 ≡ b → RampSound (cond b Still (Going p (record { 0 = lasting 1 })))
+      go : (b : Bool) → eqb (p .left .0) 0 ≡ b → RampSound (cond b Still (Going (way p 10 10)))
       go true e = tt
       go false e =
           let d = eqb-false (p .left .0) 0 e in
           let f : 1 ≤ p .left .0 = omega arith in
-          record { inner = a .placed .inner f; left = f; small = a .small; wait = omega arith; soon = omega arith }
+          record { inner = a .placed .inner f; left = f; small = a .small; wait = omega arith; soon = omega arith; period = refl }
 
   enter-small : (n : ℕ) → ((i : ℕ) → word w i < 65536) → enter w first n .left .0 < 65536
   unfolding enter
@@ -106,17 +106,17 @@ module _ (w : List ℕ) (first : ℕ) where
   advance-sound : (l : Loaded) (r : Ramp) (s : Shown) → ((i : ℕ) → word w i < 65536) → RampSound r → ShownSound s → MovedSound (advance w first l r s)
   unfolding advance
   advance-sound l Still s f g h = record { ramp = tt; shown = h }
-  advance-sound l (Going p t) s f g h = go (ltb 1 (t .0)) refl
+  advance-sound l (Going r) s f g h = go (ltb 1 (r .wait .0)) refl
     where
-      go : (b : Bool) → ltb 1 (t .0) ≡ b
-          → MovedSound (cond b (record { ramp = Going p (record { 0 = t .0 - 1 }); shown = s }) (given w first l (next w first p) s))
+      go : (b : Bool) → ltb 1 (r .wait .0) ≡ b
+          → MovedSound (cond b (record { ramp = Going (way (r .place) (r .wait .0 - 1) (r .period .0)); shown = s }) (given w first l (r .period .0) (next w first (r .place)) s))
       go true e =
-          let d = ltb-true 1 (t .0) e in
+          let d = ltb-true 1 (r .wait .0) e in
           record {
-            ramp = record { inner = g .inner; left = g .left; small = g .small; wait = omega arith; soon = omega (arith, g .soon) };
+            ramp = record { inner = g .inner; left = g .left; small = g .small; wait = omega arith; soon = omega (arith, g .soon); period = g .period };
             shown = h;
           }
-      go false e = given-sound l (next w first p) s (next-at p (g .inner) (g .small) f) h
+      go false e = rw (g .period) (given-sound l (next w first (r .place)) s (next-at (r .place) (g .inner) (g .small) f) h)
 
   advance-still : (l : Loaded) (r : Ramp) (s : Shown) → r ≡ Still → advance w first l r s .ramp ≡ Still
   unfolding advance
@@ -130,12 +130,12 @@ pub record SideSound (x : Side) : Type 0 where
 
 phase-sound : (r : Ramp) → RampSound r → PhaseSound (phaseOf r)
 phase-sound Still h = tt
-phase-sound (Going p t) h = h
+phase-sound (Going r) h = h
 
 pub ramp-sound : (p : Phase) → PhaseSound p → RampSound (rampOf p)
 ramp-sound Rest h = tt
 ramp-sound (Counting n older) h = h .ramp
-ramp-sound (Running p t) h = h
+ramp-sound (Running r) h = h
 
 with-sound : (ch : Channel) (p : Phase) (s : Shown) → ChannelSound ch → PhaseSound p → ShownSound s → ChannelSound (with ch p s)
 with-sound ch p s h f g = record { phase = f; level = h .level; table = h .table; scale = h .scale; offset = h .offset; shown = g }
@@ -217,8 +217,8 @@ module _ (s : List ℕ) (w : Words s) (l : List ℕ) (c : ℕ) (inside : c < 4) 
   unfolding tickAt
   tick-in Rest k = record { channel = h; tables = t }
   tick-in (Counting n older) k = count-sound (n .0) older k
-  tick-in (Running p v) k =
-      let m = advance-sound l (firstOf c) (ch .loaded) (Going p v) (ch .shown) (t .small) k (h .shown) in
+  tick-in (Running r) k =
+      let m = advance-sound l (firstOf c) (ch .loaded) (Going r) (ch .shown) (t .small) k (h .shown) in
       record { channel = moved-sound _ m; tables = t }
 
   -- A TICK KEEPS A CHANNEL SOUND

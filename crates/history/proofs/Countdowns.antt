@@ -8,9 +8,8 @@ use native.Mathlib.Omega.{arith}
 use lib.Dec.{eqb}
 use lib.ListN.{length}
 use borrow.Author.Tests.{ne-eqb, eqb-true}
-use Rattle.word.specs.declared.Micros.{Micros}
 use Rattle.slots.specs.declared.Holder.the-variants.{Level, Nobody}
-use Rattle.channel.specs.declared.Place.{Place}
+use Rattle.channel.specs.declared.Way.{Way}
 use Rattle.channel.specs.declared.Moved.{Moved}
 use Rattle.channel.specs.declared.Shown.{Shown}
 use Rattle.channel.specs.declared.Loaded.{Loaded}
@@ -141,15 +140,15 @@ module _ (l m : List ℕ) (c : ℕ) (same : SameTable m (firstOf c) l (firstOf c
   same-advance : (r : Ramp) → RampSound r → advance m (firstOf c) ld r s ≡ advance l (firstOf c) ld r s
   unfolding advance given
   same-advance Still h = refl
-  same-advance (Going p t) h =
+  same-advance (Going r) h =
       rw (
-        same-next m (firstOf c) l (firstOf c) same p (h .inner),
-        same-give m (firstOf c) l (firstOf c) same ld (next l (firstOf c) p) s (placed-next l (firstOf c) p (h .inner)),
+        same-next m (firstOf c) l (firstOf c) same (r .place) (h .inner),
+        same-give m (firstOf c) l (firstOf c) same ld (next l (firstOf c) (r .place)) s (placed-next l (firstOf c) (r .place) (h .inner)),
       )
 
 ramp-phase : (r : Ramp) → rampOf (phaseOf r) ≡ r
 ramp-phase Still = refl
-ramp-phase (Going p t) = refl
+ramp-phase (Going r) = refl
 
 -- a channel's tick that is no load and no start
 record Moves (l : List ℕ) (c : ℕ) (ch : Channel) (x : Side) : Type 0 where
@@ -164,13 +163,13 @@ counting-moves s l c ch (Counting n older) e h =
     rw (ne-eqb (n .0 - 1) 0 (λ d. absurd (omega arith)), ne-eqb (n .0 - 1) lead (λ d. absurd (omega arith)))
     (record { ramp = rw e; shown = rw e; loaded = refl; tables = refl })
 counting-moves s l c ch Rest e h = absurd (omega arith)
-counting-moves s l c ch (Running p t) e h = absurd (omega arith)
+counting-moves s l c ch (Running r) e h = absurd (omega arith)
 
-running-moves : (s l : List ℕ) (c : ℕ) (ch : Channel) (p : Place) (t : Micros) (q : Phase) → ch .phase ≡ q → q ≡ Running p t → Moves l c ch (tickAt q s l c ch)
+running-moves : (s l : List ℕ) (c : ℕ) (ch : Channel) (r : Way) (q : Phase) → ch .phase ≡ q → q ≡ Running r → Moves l c ch (tickAt q s l c ch)
 unfolding tickAt
-running-moves s l c ch p t (Running a b) e f = record { ramp = rw e (ramp-phase _); shown = rw e; loaded = refl; tables = refl }
-running-moves s l c ch p t Rest e f = let z : _≡_ {A = ℕ} 0 1 = cc in absurd (omega arith)
-running-moves s l c ch p t (Counting n older) e f = let z : _≡_ {A = ℕ} 0 1 = cc in absurd (omega arith)
+running-moves s l c ch r (Running w) e f = record { ramp = rw e (ramp-phase _); shown = rw e; loaded = refl; tables = refl }
+running-moves s l c ch r Rest e f = let z : _≡_ {A = ℕ} 0 1 = cc in absurd (omega arith)
+running-moves s l c ch r (Counting n older) e f = let z : _≡_ {A = ℕ} 0 1 = cc in absurd (omega arith)
 
 module _ (st : State) (h : Sound st) (c : ℕ) (inside : c < 4) where
   abbrev ch : Channel
@@ -220,6 +219,6 @@ older-goes-on =
       trigger = λ st h x level e c i f. trigger-keeps st x level e c i f (omega (arith, h .tables .many));
       shown = λ st x level e c i f. trigger-shows st x level e c i f;
       counting = λ st h c i f. goes st h c i (counting-moves (st .settings) _ c (channelOf (st .card) c) (channelOf (st .card) c .phase) refl f);
-      running = λ st h c i p t f. goes st h c i (running-moves (st .settings) _ c (channelOf (st .card) c) p t (channelOf (st .card) c .phase) refl f);
+      running = λ st h c i r f. goes st h c i (running-moves (st .settings) _ c (channelOf (st .card) c) r (channelOf (st .card) c .phase) refl f);
       write = write-keeps-ramp;
     }

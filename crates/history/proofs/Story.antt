@@ -16,6 +16,7 @@ use Rattle.map.specs.Map.{base, registerOf}
 use Rattle.map.specs.Addresses.{enableAt}
 use Rattle.slots.specs.declared.Holder.{Holder}
 use Rattle.slots.specs.declared.Holder.the-variants.{Level, Nobody}
+use Rattle.word.specs.Word.{lasting}
 use Rattle.channel.specs.declared.Place.{Place}
 use Rattle.channel.specs.declared.Loaded.{Loaded}
 use Rattle.channel.specs.declared.Moved.{Moved}
@@ -24,7 +25,7 @@ use Rattle.channel.specs.declared.Ramp.the-variants.{Still, Going}
 use Rattle.channel.specs.declared.Phase.{Phase}
 use Rattle.channel.specs.declared.Phase.the-variants.{Rest, Counting, Running}
 use Rattle.channel.specs.declared.Channel.{Channel}
-use Rattle.channel.specs.Ramp.{place, enter, next, sampleAt, put, given, advance}
+use Rattle.channel.specs.Ramp.{place, enter, next, sampleAt, put, way, given, advance}
 use Rattle.channel.specs.Channel.{word, with, firstOf, lead, load, loadedFor, start, side, rampOf, phaseOf, countTo, tickAt, countdown, triggered, resetChannel}
 use Rattle.card.specs.declared.Card.{Card}
 use Rattle.card.specs.Card.{State, channelOf, withChannel}
@@ -80,7 +81,7 @@ module _ (s l : List ℕ) (c : ℕ) (ch : Channel) (x : Told) (r : Right ch x) w
   start-right = go (eqb (word s (enableAt c)) 1)
     where
       m : Moved
-      m = given l (firstOf c) (ch .loaded) (enter l (firstOf c) 0) (ch .shown)
+      m = given l (firstOf c) (ch .loaded) (lasting 1) (enter l (firstOf c) 0) (ch .shown)
 
       go : (b : Bool) → Right (cond b (with ch (phaseOf (m .ramp)) (m .shown)) (with ch Rest (ch .shown))) (told x (cond b (sample l c ch (enter l (firstOf c) 0)) []))
       go true = put-right (phaseOf (m .ramp)) (enter l (firstOf c) 0) (sampleAt l (firstOf c) (ch .loaded) (enter l (firstOf c) 0))
@@ -91,17 +92,20 @@ module _ (s l : List ℕ) (c : ℕ) (ch : Channel) (x : Told) (r : Right ch x) w
       → Right (with ch (in-phase (advance l (firstOf c) (ch .loaded) older (ch .shown) .ramp)) (advance l (firstOf c) (ch .loaded) older (ch .shown) .shown)) (told x (byRamp l c ch older))
   unfolding advance given
   ramp-right in-phase Still = same-right (in-phase Still)
-  ramp-right in-phase (Going p t) = go (ltb 1 (t .0))
+  ramp-right in-phase (Going w) = go (ltb 1 (w .wait .0))
     where
       m : Moved
-      m = given l (firstOf c) (ch .loaded) (next l (firstOf c) p) (ch .shown)
+      m = given l (firstOf c) (ch .loaded) (w .period .0) (next l (firstOf c) (w .place)) (ch .shown)
+
+      later : Ramp
+      later = Going (way (w .place) (w .wait .0 - 1) (w .period .0))
 
       o : Bool → Moved
-      o b = cond b (record { ramp = Going p (record { 0 = t .0 - 1 }); shown = ch .shown }) m
+      o b = cond b (record { ramp = later; shown = ch .shown }) m
 
-      go : (b : Bool) → Right (with ch (in-phase (o b .ramp)) (o b .shown)) (told x (cond b [] (sample l c ch (next l (firstOf c) p))))
-      go true = same-right (in-phase (Going p (record { 0 = t .0 - 1 })))
-      go false = put-right (in-phase (m .ramp)) (next l (firstOf c) p) (sampleAt l (firstOf c) (ch .loaded) (next l (firstOf c) p))
+      go : (b : Bool) → Right (with ch (in-phase (o b .ramp)) (o b .shown)) (told x (cond b [] (sample l c ch (next l (firstOf c) (w .place)))))
+      go true = same-right (in-phase later)
+      go false = put-right (in-phase (m .ramp)) (next l (firstOf c) (w .place)) (sampleAt l (firstOf c) (ch .loaded) (next l (firstOf c) (w .place)))
 
   tick-right : (p : Phase) → Right (tickAt p s l c ch .channel) (told x (inPhase p s l c ch))
   unfolding tickAt countTo
@@ -117,7 +121,7 @@ module _ (s l : List ℕ) (c : ℕ) (ch : Channel) (x : Told) (r : Right ch x) w
       go true b = start-right
       go false true = loads-right (ch .level)
       go false false = ramp-right (Counting (record { 0 = n .0 - 1 })) older
-  tick-right (Running p t) = ramp-right phaseOf (Going p t)
+  tick-right (Running w) = ramp-right phaseOf (Going w)
 
   trigger-right : (level : ℕ) → Right (triggered s l c ch level .channel) (told x (byTrigger (Level level) s c))
   unfolding triggered
@@ -138,9 +142,9 @@ module _ (s l m : List ℕ) (c : ℕ) (ch : Channel) (same : SameTable m (firstO
 
   same-ramp : (r : Ramp) → RampSound r → byRamp m c ch r ≡ byRamp l c ch r
   same-ramp Still h = refl
-  same-ramp (Going p t) h =
-      ap (λ (hs : List Happening). cond (ltb 1 (t .0)) [] hs)
-      (same-at _ _ (same-next m (firstOf c) l (firstOf c) same p (h .inner)) (placed-next l (firstOf c) p (h .inner)))
+  same-ramp (Going r) h =
+      ap (λ (hs : List Happening). cond (ltb 1 (r .wait .0)) [] hs)
+      (same-at _ _ (same-next m (firstOf c) l (firstOf c) same (r .place) (h .inner)) (placed-next l (firstOf c) (r .place) (h .inner)))
 
   same-start : byStart s m c ch ≡ byStart s l c ch
   same-start =
@@ -150,7 +154,7 @@ module _ (s l m : List ℕ) (c : ℕ) (ch : Channel) (same : SameTable m (firstO
   same-tick : (p : Phase) → PhaseSound p → inPhase p s m c ch ≡ inPhase p s l c ch
   same-tick Rest h = refl
   same-tick (Counting n older) h = rw (same-start, same-ramp older (h .ramp))
-  same-tick (Running p t) h = same-ramp (Going p t) h
+  same-tick (Running r) h = same-ramp (Going r) h
 
 four-fresh : (k : ℕ) → k < 4 → channelOf cardReset k ≡ resetChannel
 unfolding cardReset

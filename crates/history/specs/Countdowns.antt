@@ -3,10 +3,9 @@
 use mathlib.Core.Path.{_≡_}
 use mathlib.Core.List.{List}
 use Prim.Native.Nat.{ℕ, _<_}
-use Rattle.word.specs.declared.Micros.{Micros}
 use Rattle.slots.specs.declared.Holder.the-variants.{Level, Nobody}
 use Rattle.channel.specs.declared.Moved.{Moved}
-use Rattle.channel.specs.declared.Place.{Place}
+use Rattle.channel.specs.declared.Way.{Way}
 use Rattle.channel.specs.declared.Phase.{Phase}
 use Rattle.channel.specs.declared.Phase.the-variants.{Rest, Counting, Running}
 use Rattle.channel.specs.Ramp.{advance}
@@ -23,7 +22,7 @@ use Rattle.history.specs.Sound.{Sound}
 abbrev pub toStart : Phase → ℕ
 toStart Rest = 0
 toStart (Counting n older) = n .0
-toStart (Running p t) = 0
+toStart (Running r) = 0
 
 -- the state that a trigger comes to: 'a tick first advances every channel, then takes its event'
 abbrev pub justBefore : State → Act → State
@@ -66,7 +65,7 @@ pub record OlderGoesOn : Type 0 where
       → channelOf (act st x .card) c .shown ≡ channelOf (justBefore st x .card) c .shown
   -- a tick moves it on while the load is to come on a later tick, as it moves a ramp with no countdown beside it
   pub counting : (st : State) → Sound st → (c : ℕ) → c < 4 → 11 < toStart (channelOf (st .card) c .phase) → GoesOn c st (advanced st)
-  pub running : (st : State) → Sound st → (c : ℕ) → c < 4 → (p : Place) (t : Micros) → channelOf (st .card) c .phase ≡ Running p t → GoesOn c st (advanced st)
+  pub running : (st : State) → Sound st → (c : ℕ) → c < 4 → (r : Way) → channelOf (st .card) c .phase ≡ Running r → GoesOn c st (advanced st)
   -- a write that is no trigger leaves the ramp and its copy
   pub write : (st : State) → Sound st → (start count : ℕ) (ws : List ℕ) → triggerBy st (Write start count ws) ≡ Nobody → (c : ℕ) → c < 4
       → RampKept c st (act st (Write start count ws))

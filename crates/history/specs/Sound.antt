@@ -7,8 +7,7 @@ use lib.ListN.{length}
 use Rattle.map.specs.Map.{registerOf, acceptedAt}
 use Rattle.map.specs.Addresses.{tableAt, scaleAt, offsetAt}
 use Rattle.slots.specs.Slots.{OneLevel}
-use Rattle.word.specs.declared.Micros.{Micros}
-use Rattle.channel.specs.declared.Place.{Place}
+use Rattle.channel.specs.declared.Way.{Way}
 use Rattle.channel.specs.declared.Shown.{Shown}
 use Rattle.channel.specs.declared.Ramp.{Ramp}
 use Rattle.channel.specs.declared.Ramp.the-variants.{Still, Going}
@@ -45,17 +44,18 @@ pub record Tables (l : List ℕ) : Type 0 where
 
 -- ---- a channel
 
--- a ramp on its way: in a segment before point 63, with samples left in it, the next of them within 10 microseconds
-pub record OnItsWay (p : Place) (t : Micros) : Type 0 where
-  pub inner : p .segment < 63
-  pub left : 1 ≤ p .left .0
-  pub small : p .left .0 < 65536
-  pub wait : 1 ≤ t .0
-  pub soon : t .0 ≤ 10
+-- a ramp on its way: in a segment before point 63, with samples left in it, one every 10 microseconds
+pub record OnItsWay (r : Way) : Type 0 where
+  pub inner : r .place .segment < 63
+  pub left : 1 ≤ r .place .left .0
+  pub small : r .place .left .0 < 65536
+  pub wait : 1 ≤ r .wait .0
+  pub soon : r .wait .0 ≤ r .period .0
+  pub period : r .period .0 ≡ 10
 
 abbrev pub RampSound : Ramp → Type 0
 RampSound Still = Unit
-RampSound (Going p t) = OnItsWay p t
+RampSound (Going r) = OnItsWay r
 
 -- a countdown; from the load on, 10 microseconds before the start, no older ramp runs
 pub record Countdown (n : ℕ) (older : Ramp) : Type 0 where
@@ -67,7 +67,7 @@ pub record Countdown (n : ℕ) (older : Ramp) : Type 0 where
 abbrev pub PhaseSound : Phase → Type 0
 PhaseSound Rest = Unit
 PhaseSound (Counting n older) = Countdown (n .0) older
-PhaseSound (Running p t) = OnItsWay p t
+PhaseSound (Running r) = OnItsWay r
 
 pub record ShownSound (s : Shown) : Type 0 where
   pub output : s .output < 65536

@@ -46,7 +46,7 @@ sample l c ch p = Sample p (sampleAt l (firstOf c) (ch .loaded) p) ∷ []
 -- 'every 10 ticks': a ramp gives its next sample when its wait is over
 abbrev pub byRamp : List ℕ → ℕ → Channel → Ramp → List Happening
 byRamp l c ch Still = []
-byRamp l c ch (Going p t) = cond (ltb 1 (t .0)) [] (sample l c ch (next l (firstOf c) p))
+byRamp l c ch (Going r) = cond (ltb 1 (r .wait .0)) [] (sample l c ch (next l (firstOf c) (r .place)))
 
 -- 'at countdown 0 the ramp starts if A00 is 1'
 abbrev pub byStart : List ℕ → List ℕ → ℕ → Channel → List Happening
@@ -57,7 +57,7 @@ abbrev pub inPhase : Phase → List ℕ → List ℕ → ℕ → Channel → Lis
 inPhase Rest s l c ch = []
 inPhase (Counting n older) s l c ch =
     cond (eqb (n .0 - 1) 0) (byStart s l c ch) (cond (eqb (n .0 - 1) lead) (Load (loadedFor s c (ch .level)) ∷ []) (byRamp l c ch older))
-inPhase (Running p t) s l c ch = byRamp l c ch (Going p t)
+inPhase (Running r) s l c ch = byRamp l c ch (Going r)
 
 abbrev pub byTick : List ℕ → List ℕ → ℕ → Channel → List Happening
 byTick s l c ch = inPhase (ch .phase) s l c ch
