@@ -7,11 +7,12 @@ const LEVELS: usize = 32;
 const SLOTS_PER_LEVEL: usize = 8;
 const SLOTS: usize = LEVELS * SLOTS_PER_LEVEL;
 const TABLES: usize = 16;
-const TABLE_WORDS: usize = 128;
+/// The words of a table: V and time step of each of its 64 points.
+pub const TABLE_WORDS: usize = 128;
 /// The last point of a table: the ramp ends there whatever its time step.
 const LAST_POINT: u16 = 63;
 /// A channel loads when its countdown is set at or reaches this.
-const LOAD_AT: u16 = 10;
+pub const LOAD_AT: u16 = 10;
 /// Samples come at the start and every so many ticks.
 const SAMPLE_TICKS: u8 = 10;
 /// "Event 0xFE is null."
@@ -73,7 +74,7 @@ impl Access {
 
 /// One row of the map of words.
 #[derive(Clone, Copy, Debug, PartialEq, Eq)]
-enum Region {
+pub enum Region {
     Tables,
     RampMap,
     ScaleMap,
@@ -155,21 +156,21 @@ const CARD_ROWS: [Row; 8] = [
     (0x4220, 0x423F, Access::Both, Region::LevelCounts),
 ];
 
-/// Where a transfer starts: the region, its channel, and the word in it.
+/// The place of an address: the region, its channel, and the word in it.
 #[derive(Clone, Copy, Debug)]
-struct Place {
-    region: Region,
+pub struct Place {
+    pub region: Region,
     access: Access,
     channel: usize,
-    /// The start's word, counted from the region's first.
-    index: usize,
+    /// The address's word, counted from the region's first.
+    pub index: usize,
     /// The words of the region.
     words: usize,
 }
 
 impl Place {
     /// The region an address belongs to, if any.
-    fn find(address: u16) -> Option<Place> {
+    pub fn find(address: u16) -> Option<Place> {
         let (rows, channel, offset) = if address < 0x4000 {
             let channel = usize::from(address >> 12);
             (&CHANNEL_ROWS[..], channel, address & 0x0FFF)
@@ -331,6 +332,18 @@ impl Channel {
         }
     }
 
+    fn look(&self) -> Look {
+        let countdown = match self.phase {
+            Phase::Counting { countdown, .. } => countdown,
+            _ => 0,
+        };
+        Look {
+            countdown,
+            ramp_runs: self.ramp_runs(),
+            overflows: self.overflows,
+        }
+    }
+
     /// Sets the countdown anew to the delay for the level, at least 10. An
     /// older ramp runs on until the load.
     fn trigger(&mut self, level: u8) {
@@ -448,6 +461,16 @@ impl Channel {
     }
 }
 
+/// What a look at a channel shows, without a transfer.
+#[derive(Clone, Copy, Debug)]
+pub struct Look {
+    /// The ticks to its start, 0 when it does not count.
+    pub countdown: u16,
+    /// Whether a ramp runs, be it an older one during a countdown.
+    pub ramp_runs: bool,
+    pub overflows: u16,
+}
+
 /// The whole card.
 #[derive(Clone, Debug)]
 pub struct Card {
@@ -477,6 +500,17 @@ impl Card {
         std::array::from_fn(|channel| self.channels[channel].output)
     }
 
+    /// A look at every channel.
+    pub fn looks(&self) -> [Look; CHANNELS] {
+        std::array::from_fn(|channel| self.channels[channel].look())
+    }
+
+    /// The words of a table as they stand in the settings, if it is there.
+    pub fn table(&self, channel: usize, table: usize) -> Option<&[u16]> {
+        let tables = &self.channels.get(channel)?.tables;
+        tables.chunks_exact(TABLE_WORDS).nth(table)
+    }
+
     /// One tick, one microsecond, without an event.
     #[inline]
     pub fn tick(&mut self) {
@@ -488,11 +522,17 @@ impl Card {
     /// One tick with an event: first every channel, then the event.
     pub fn event(&mut self, event: u8) {
         self.tick();
-        if self.clock_enable == 1 {
-            if let Some(level) = self.level_of(event) {
-                self.trigger(level, event);
-            }
-        }
+        self.receive(event);
+    }
+
+    /// The event of a tick; whether it is an accepted trigger.
+    pub fn receive(&mut self, event: u8) -> bool {
+        let level = match self.level_of(event) {
+            Some(level) if self.clock_enable == 1 => level,
+            _ => return false,
+        };
+        self.trigger(level, event);
+        true
     }
 
     /// The level some slot of which holds the event; none holds the null one.

@@ -1,18 +1,26 @@
-//! A model of the four-channel ramp card behind its line program.
+//! A model of the four-channel ramp card behind its two programs.
 
+mod bench;
 mod card;
 mod line;
+mod panel;
+mod program;
+mod reach;
 mod sessions;
 
 use std::env;
-use std::fs::File;
+use std::fs::{self, File};
 use std::io::{self, BufWriter, ErrorKind, Read, Write};
 use std::os::fd::AsFd;
 use std::path::Path;
 use std::process::ExitCode;
 
-use line::Lines;
+use program::{Lines, Program};
+use reach::Reach;
 
+/// What the program can be asked for.
+const USAGE: &str = "no argument, or: bench, or: sessions rampcard|bench SEED COUNT DIR, \
+    or: reach rampcard|bench FILE...";
 /// The input is read in pieces of this many bytes.
 const PIECE: usize = 64 * 1024;
 
@@ -22,12 +30,7 @@ fn main() -> ExitCode {
         .map(|argument| argument.to_string_lossy().into_owned())
         .collect();
     let arguments: Vec<&str> = arguments.iter().map(String::as_str).collect();
-    let ended = match arguments[..] {
-        [] => dialogue().map_err(|error| error.to_string()),
-        ["sessions", seed, count, directory] => write_sessions(seed, count, directory),
-        _ => Err("no argument, or: sessions SEED COUNT DIR".to_string()),
-    };
-    match ended {
+    match run(&arguments) {
         Ok(()) => ExitCode::SUCCESS,
         Err(word) => {
             eprintln!("ramp card: {word}");
@@ -36,18 +39,38 @@ fn main() -> ExitCode {
     }
 }
 
+fn run(arguments: &[&str]) -> Result<(), String> {
+    match arguments {
+        [] => dialogue(Program::Rampcard).map_err(said),
+        ["sessions", program, seed, count, directory] => {
+            write_sessions(named(program)?, seed, count, directory)
+        }
+        ["reach", program, files @ ..] => print_reach(named(program)?, files),
+        [program] => dialogue(named(program)?).map_err(said),
+        _ => Err(USAGE.to_string()),
+    }
+}
+
+fn named(name: &str) -> Result<Program, String> {
+    Program::named(name).ok_or(USAGE.to_string())
+}
+
+fn said(error: io::Error) -> String {
+    error.to_string()
+}
+
 /// Standard input to standard output on a reset card.
-fn dialogue() -> io::Result<()> {
+fn dialogue(program: Program) -> io::Result<()> {
     // Plain files, so that every failed read or write is seen as one.
     let input = File::from(io::stdin().as_fd().try_clone_to_owned()?);
     let output = File::from(io::stdout().as_fd().try_clone_to_owned()?);
-    serve(input, BufWriter::with_capacity(PIECE, output))
+    serve(program, input, BufWriter::with_capacity(PIECE, output))
 }
 
 /// Answers the whole input; the answers of all complete lines received are
 /// written before it waits for more.
-fn serve(mut input: impl Read, mut output: impl Write) -> io::Result<()> {
-    let mut lines = Lines::new();
+fn serve(program: Program, mut input: impl Read, mut output: impl Write) -> io::Result<()> {
+    let mut lines = Lines::new(program);
     let mut piece = vec![0; PIECE];
     loop {
         match input.read(&mut piece) {
@@ -63,14 +86,29 @@ fn serve(mut input: impl Read, mut output: impl Write) -> io::Result<()> {
 }
 
 /// Writes the random sessions of a seed, one a file.
-fn write_sessions(seed: &str, count: &str, directory: &str) -> Result<(), String> {
+fn write_sessions(
+    program: Program,
+    seed: &str,
+    count: &str,
+    directory: &str,
+) -> Result<(), String> {
     let seed = seed
         .parse()
         .map_err(|_| "SEED is a decimal number of 64 bits")?;
     let count = count
         .parse()
         .map_err(|_| "COUNT is a decimal number of 64 bits")?;
-    sessions::write_all(seed, count, Path::new(directory)).map_err(|error| error.to_string())
+    sessions::write_all(program, seed, count, Path::new(directory)).map_err(said)
+}
+
+/// Prints what the sessions of the files reach, a line a thing.
+fn print_reach(program: Program, files: &[&str]) -> Result<(), String> {
+    let mut reach = Reach::new(program);
+    for file in files {
+        let session = fs::read(file).map_err(|error| format!("{file}: {error}"))?;
+        reach.play(&session);
+    }
+    write!(io::stdout(), "{reach}").map_err(said)
 }
 
 #[cfg(test)]
@@ -110,7 +148,7 @@ mod tests {
             Ok(b"00\n"),
         ];
         let mut out = Vec::new();
-        serve(Script(VecDeque::from(script)), &mut out).unwrap();
+        serve(Program::Bench, Script(VecDeque::from(script)), &mut out).unwrap();
         assert_eq!(out, b"830000000000000000\n");
     }
 
@@ -118,14 +156,14 @@ mod tests {
     fn another_failed_read_ends_it_after_the_answers_given() {
         let script = [Ok(&b"\n"[..]), Err(ErrorKind::Other.into())];
         let mut out = Vec::new();
-        assert!(serve(Script(VecDeque::from(script)), &mut out).is_err());
+        assert!(serve(Program::Bench, Script(VecDeque::from(script)), &mut out).is_err());
         assert_eq!(out, b"FF\n");
     }
 
     #[test]
     fn a_failed_write_ends_it() {
-        assert!(serve(&b"030000\n"[..], Full).is_err());
-        assert!(serve(&b"030000"[..], Full).is_err());
-        assert!(serve(&b""[..], Full).is_ok());
+        assert!(serve(Program::Rampcard, &b"030000\n"[..], Full).is_err());
+        assert!(serve(Program::Rampcard, &b"030000"[..], Full).is_err());
+        assert!(serve(Program::Rampcard, &b""[..], Full).is_ok());
     }
 }

@@ -1,8 +1,12 @@
-//! Random sessions for the line program, the same ones for the same seed.
+//! Random sessions for both programs, the same ones for the same seed.
+
+mod bench;
 
 use std::fs;
 use std::io;
 use std::path::Path;
+
+use crate::program::Program;
 
 /// Every region of the map of words, channel 0 standing for all channels.
 const REGIONS: [(u16, u16); 23] = [
@@ -83,21 +87,20 @@ impl Random {
 }
 
 /// Writes the sessions DIR/00000.txt, DIR/00001.txt, ... of the seed.
-pub fn write_all(seed: u64, count: u64, directory: &Path) -> io::Result<()> {
+pub fn write_all(program: Program, seed: u64, count: u64, directory: &Path) -> io::Result<()> {
     fs::create_dir_all(directory)?;
     for index in 0..count {
         let name = format!("{index:05}.txt");
-        fs::write(directory.join(name), session(seed, index))?;
+        fs::write(directory.join(name), session(program, seed, index))?;
     }
     Ok(())
 }
 
-/// One session; it depends on the seed and its index alone.
-fn session(seed: u64, index: u64) -> Vec<u8> {
+/// One session; it depends on the program, the seed and its index alone.
+fn session(program: Program, seed: u64, index: u64) -> Vec<u8> {
     let mut mixed = Random(seed);
-    let mut session = Session::new(Random(
-        mixed.next() ^ index.wrapping_mul(0xD6E8_FEB8_6659_FD93),
-    ));
+    let own = mixed.next() ^ index.wrapping_mul(0xD6E8_FEB8_6659_FD93);
+    let mut session = Session::new(program, Random(own));
     let lines = session.length();
     if lines > 5 && session.random.percent(90) {
         session.set_up();
@@ -116,7 +119,7 @@ fn session(seed: u64, index: u64) -> Vec<u8> {
 /// A kind of step, with its weight.
 type Step = (u16, fn(&mut Session));
 
-/// The kinds of steps a session is made of.
+/// The kinds of steps a session of the line program is made of.
 const STEPS: [Step; 25] = [
     (26, Session::some_ticks),
     (8, Session::trigger),
@@ -148,6 +151,7 @@ const STEPS: [Step; 25] = [
 /// A session being written. It stays with a few levels, tables, entries and
 /// events, so that what it writes meets what it triggers.
 struct Session {
+    program: Program,
     random: Random,
     text: Vec<u8>,
     lines: usize,
@@ -162,7 +166,7 @@ struct Session {
 }
 
 impl Session {
-    fn new(mut random: Random) -> Self {
+    fn new(program: Program, mut random: Random) -> Self {
         let first = random.below(0xF0);
         let apart = random.within(1, 10);
         let level = random.below(32);
@@ -177,6 +181,7 @@ impl Session {
             lines: 0,
             ticks: 0,
             budget,
+            program,
             random,
         }
     }
@@ -192,14 +197,27 @@ impl Session {
     }
 
     fn step(&mut self) {
-        let total = STEPS.iter().map(|&(weight, _)| weight).sum();
+        match self.program {
+            Program::Rampcard => self.one_of(&STEPS),
+            Program::Bench => self.one_of(&bench::STEPS),
+        }
+    }
+
+    /// One of the steps, by their weights.
+    fn one_of(&mut self, steps: &[Step]) {
+        let total = steps.iter().map(|&(weight, _)| weight).sum();
         let mut roll = self.random.below(total);
-        for (weight, step) in STEPS {
+        for &(weight, step) in steps {
             if roll < weight {
                 return step(self);
             }
             roll -= weight;
         }
+    }
+
+    /// True so many times in a hundred for the bench program, else never.
+    fn bench_percent(&mut self, chance: u16) -> bool {
+        self.program == Program::Bench && self.random.percent(chance)
     }
 
     fn line(&mut self, bytes: &[u8]) {
@@ -209,11 +227,17 @@ impl Session {
     }
 
     fn write(&mut self, start: u16, words: &[u16]) {
-        let line = write_line(start, words);
-        self.line(line.as_bytes());
+        if self.bench_percent(40) {
+            return self.write_from_a_slice(start, words);
+        }
+        let digits = digits(words);
+        self.line(format!("01{start:04X}{digits}").as_bytes());
     }
 
     fn read(&mut self, start: u16, count: u16) {
+        if self.bench_percent(40) {
+            return self.read_into_a_slice(start, count);
+        }
         self.line(format!("02{start:04X}{count:04X}").as_bytes());
     }
 
@@ -255,10 +279,9 @@ impl Session {
     }
 }
 
-/// The line of a write frame.
-fn write_line(start: u16, words: &[u16]) -> String {
-    let digits: String = words.iter().map(|word| format!("{word:04X}")).collect();
-    format!("01{start:04X}{digits}")
+/// Words of four digits each.
+fn digits(words: &[u16]) -> String {
+    words.iter().map(|word| format!("{word:04X}")).collect()
 }
 
 /// Settings.
@@ -850,6 +873,9 @@ impl Session {
 
     /// A frame whose doing would show.
     fn sound_line(&mut self) -> Vec<u8> {
+        if self.bench_percent(60) {
+            return self.sound_bench_line();
+        }
         let level = self.level();
         let event = self.events[0];
         let lines = [
@@ -881,6 +907,9 @@ impl Session {
 
     /// A first byte that names no frame, on the length of one that does.
     fn unknown_frame(&mut self) {
+        if self.bench_percent(60) {
+            return self.unknown_bench_frame();
+        }
         let kind = self.random.pick(&[
             0x00, 0x05, 0x06, 0x0F, 0x10, 0x20, 0x30, 0x81, 0x82, 0x83, 0x84, 0xFE, 0xFF,
         ]);
@@ -929,39 +958,30 @@ impl Session {
 mod tests {
     use super::*;
     use crate::card::Card;
-    use crate::line::{answer, Lines};
+    use crate::reach::Reach;
     use std::collections::BTreeSet;
 
     #[test]
     fn the_same_seed_gives_the_same_sessions() {
-        for index in 0..20 {
-            assert_eq!(session(7, index), session(7, index));
+        for program in [Program::Rampcard, Program::Bench] {
+            let of = |seed, index| session(program, seed, index);
+            assert!((0..20).all(|index| of(7, index) == of(7, index)));
+            let others = (0..20).filter(|&index| of(7, index) != of(8, index));
+            assert!(others.count() > 15);
         }
-        let others = (0..20).filter(|&index| session(7, index) != session(8, index));
-        assert!(others.count() > 15);
     }
 
-    /// Every kind of answer, with its number where it has one.
+    /// A hundred and fifty sessions leave no thing of the list at zero.
     #[test]
-    fn the_sessions_meet_every_answer() {
-        let mut kinds = BTreeSet::new();
-        for index in 0..150 {
-            let mut lines = Lines::new();
-            let mut out = Vec::new();
-            lines.take(&session(1, index), &mut out).unwrap();
-            lines.finish(&mut out).unwrap();
-            for line in String::from_utf8(out).unwrap().lines() {
-                kinds.insert(match &line[..2] {
-                    "81" | "82" => line[..4].to_string(),
-                    kind => kind.to_string(),
-                });
+    fn the_sessions_reach_every_thing() {
+        for program in [Program::Rampcard, Program::Bench] {
+            let mut reach = Reach::new(program);
+            for index in 0..150 {
+                reach.play(&session(program, 1, index));
             }
+            let lines = reach.to_string();
+            assert!(!lines.contains(" 0 "), "{program:?}\n{lines}");
         }
-        let expected = "8100 8101 8102 8103 8104 8105 8106 8107 8108 8200 8201 8202 8203 8204";
-        for kind in expected.split(' ').chain(["83", "84", "FF"]) {
-            assert!(kinds.contains(kind), "{kind}");
-        }
-        assert_eq!(kinds.len(), 17);
     }
 
     /// On most of the longer sessions outputs move and sums overflow.
@@ -969,7 +989,7 @@ mod tests {
     fn ramps_run_and_overflow_in_most_sessions() {
         let (mut longer, mut moved, mut overflowed) = (0, 0, 0);
         for index in 0..150 {
-            let text = session(2, index);
+            let text = session(Program::Rampcard, 2, index);
             let lines: Vec<&[u8]> = text.split(|&byte| byte == b'\n').collect();
             if lines.len() < 20 {
                 continue;
@@ -979,7 +999,9 @@ mod tests {
             let mut outputs = BTreeSet::new();
             let mut counted = false;
             for line in lines {
-                answer(&mut card, line, &mut Vec::new()).unwrap();
+                Program::Rampcard
+                    .answer(&mut card, line, &mut Vec::new())
+                    .unwrap();
                 outputs.insert(card.outputs());
                 let mut count = [0];
                 for base in [0x0000, 0x1000, 0x2000, 0x3000] {

@@ -1,0 +1,290 @@
+//! The bench program: the line program's frames, and one for each further call.
+
+use std::io::{self, Write};
+
+use crate::card::Card;
+use crate::line::{self, field, fields, put_transfer};
+use crate::panel::{self, Plotted, Reading};
+
+/// The longest slice that a frame lends to a transfer.
+pub const MAX_SLICE: usize = 0x1000;
+/// The digits of the longest frame: a write from a slice of 4096 words.
+pub const LONGEST: usize = 2 + 4 + 4 + 4 * MAX_SLICE;
+
+/// One frame, as its first byte names it.
+#[derive(Debug, PartialEq, Eq)]
+pub enum Frame {
+    /// One of the line program's.
+    Line(line::Frame),
+    Write {
+        start: u16,
+        count: usize,
+        slice: Vec<u16>,
+    },
+    Read {
+        start: u16,
+        count: usize,
+        slice: Vec<u16>,
+    },
+    Reset,
+    Plot {
+        channel: usize,
+        table: usize,
+        point: usize,
+    },
+    Panel {
+        address: u16,
+        word: u16,
+    },
+}
+
+impl Frame {
+    /// The frame of a line without its LF, or None if it is any other line.
+    pub fn parse(line: &[u8]) -> Option<Frame> {
+        let (kind, rest) = line.split_at_checked(2)?;
+        match field(kind)? {
+            0x01..=0x04 => line::Frame::parse(line).map(Frame::Line),
+            0x11 => Frame::parse_write(&fields(rest, 4)?),
+            0x12 => Frame::parse_read(&fields(rest, 4)?),
+            0x18 => rest.is_empty().then_some(Frame::Reset),
+            0x1B => Frame::parse_plot(&fields(rest, 2)?),
+            0x1C => Frame::parse_panel(&fields(rest, 4)?),
+            _ => None,
+        }
+    }
+
+    /// Start, count and a slice of up to 4096 words, whatever the count says.
+    fn parse_write(fields: &[u16]) -> Option<Frame> {
+        let &[start, count, ref slice @ ..] = fields else {
+            return None;
+        };
+        (slice.len() <= MAX_SLICE).then(|| Frame::Write {
+            start,
+            count: usize::from(count),
+            slice: slice.to_vec(),
+        })
+    }
+
+    /// Start, count, and the slice to read into: its length and its fill.
+    fn parse_read(fields: &[u16]) -> Option<Frame> {
+        let &[start, count, length, fill] = fields else {
+            return None;
+        };
+        let length = usize::from(length);
+        (length <= MAX_SLICE).then(|| Frame::Read {
+            start,
+            count: usize::from(count),
+            slice: vec![fill; length],
+        })
+    }
+
+    fn parse_plot(fields: &[u16]) -> Option<Frame> {
+        let &[channel, table, point] = fields else {
+            return None;
+        };
+        Some(Frame::Plot {
+            channel: usize::from(channel),
+            table: usize::from(table),
+            point: usize::from(point),
+        })
+    }
+
+    fn parse_panel(fields: &[u16]) -> Option<Frame> {
+        let &[address, word] = fields else {
+            return None;
+        };
+        Some(Frame::Panel { address, word })
+    }
+
+    /// Does the frame on the card and writes its answer.
+    pub fn perform(self, card: &mut Card, out: &mut impl Write) -> io::Result<()> {
+        match self {
+            Frame::Line(frame) => frame.perform(card, out),
+            Frame::Write {
+                start,
+                count,
+                slice,
+            } => put_transfer(out, 0x91, card.write(start, count, &slice), &[]),
+            Frame::Read {
+                start,
+                count,
+                mut slice,
+            } => {
+                let done = card.read(start, count, &mut slice);
+                put_transfer(out, 0x92, done, &slice)
+            }
+            Frame::Reset => {
+                *card = Card::reset();
+                out.write_all(b"98\n")
+            }
+            Frame::Plot {
+                channel,
+                table,
+                point,
+            } => put_plotted(out, panel::plotted(card, channel, table, point)),
+            Frame::Panel { address, word } => put_reading(out, address, word),
+        }
+    }
+}
+
+/// The answer to a plotted point, as whole numbers; both fields are exact.
+fn put_plotted(out: &mut impl Write, plotted: Option<Plotted>) -> io::Result<()> {
+    match plotted {
+        None => out.write_all(b"9B00\n"),
+        Some(point) => {
+            let volts = (point.volts * 32768.0) as i32;
+            let microseconds = point.microseconds as u64;
+            writeln!(out, "9B01{volts:08X}{microseconds:016X}")
+        }
+    }
+}
+
+/// The answer to a panel reading: its kind and its value as a whole number.
+fn put_reading(out: &mut impl Write, address: u16, word: u16) -> io::Result<()> {
+    let (kind, value) = match panel::reading(address, word) {
+        Reading::Nothing => (0, i32::from(word)),
+        Reading::Volts(volts) => (1, (volts * 32768.0) as i32),
+        Reading::Factor(factor) => (2, (factor * 256.0) as i32),
+        Reading::Microseconds(word) => (3, i32::from(word)),
+        Reading::Samples(word) => (4, i32::from(word)),
+        Reading::Plain(word) => (5, i32::from(word)),
+    };
+    writeln!(out, "9C{kind:02X}{value:08X}")
+}
+
+#[cfg(test)]
+mod tests {
+    use super::*;
+    use crate::program::{self, Program};
+
+    fn answers(input: &str) -> String {
+        program::answers(Program::Bench, input.as_bytes())
+    }
+
+    /// A write frame of the table from 0x0080 on, with this many words.
+    fn long_write(count: &str, words: usize) -> String {
+        format!("110080{count}{}", "0007".repeat(words))
+    }
+
+    #[test]
+    fn writes_by_count_and_slice() {
+        for (line, answer) in [
+            ("1100800000", "91010000"),
+            ("1100800001", "91010000"),
+            ("1100800001ABCD", "91000001"),
+            ("1100800001ABCDABCD", "91000001"),
+            ("1100800003ABCDABCD", "91010000"),
+            ("110080FFFFABCD", "91010000"),
+            ("1108200001ABCD", "91020000"),
+            ("11007F0001ABCD", "91050000"),
+        ] {
+            assert_eq!(answers(line), format!("{answer}\n"), "{line}");
+        }
+        let one = answers("1100800001ABCDABCD\n0200800002");
+        assert_eq!(one, "91000001\n82000002ABCD0000\n");
+    }
+
+    #[test]
+    fn the_longest_write() {
+        assert_eq!(answers(&long_write("0780", 4096)), "91000780\n");
+        assert_eq!(answers(&long_write("0781", 4096)), "91040780\n");
+        assert_eq!(answers(&long_write("1000", 4096)), "91040780\n");
+        assert_eq!(answers(&long_write("1001", 4096)), "91010000\n");
+        assert_eq!(long_write("0780", 4096).len(), LONGEST);
+        assert_eq!(LONGEST, 16_394);
+        for longer in ["0", "0007", "\r", " "] {
+            let line = long_write("0780", 4096) + longer;
+            assert_eq!(answers(&line), "FF\n", "{longer:?}");
+        }
+    }
+
+    #[test]
+    fn a_read_answers_the_whole_slice() {
+        for (line, answer) in [
+            ("1208600001000155AA", "920000010100"),
+            ("1208600001000355AA", "92000001010055AA55AA"),
+            ("120A3100020003FFFE", "920400010100FFFEFFFE"),
+            ("120860000200015555", "920100005555"),
+            ("120860000000025555", "9201000055555555"),
+            ("120860000000005555", "92010000"),
+            ("120820000100011234", "920200001234"),
+            ("124202000100011234", "920300001234"),
+        ] {
+            assert_eq!(answers(line), format!("{answer}\n"), "{line}");
+        }
+        let whole = answers("120000FFFF10000BAD");
+        assert_eq!(whole, format!("92010000{}\n", "0BAD".repeat(4096)));
+        let most = format!("92040800{}{}\n", "0000".repeat(2048), "0BAD".repeat(2048));
+        assert_eq!(answers("120000100010000BAD"), most);
+        assert_eq!(answers("120000100010010BAD"), "FF\n");
+    }
+
+    #[test]
+    fn a_reset_is_the_card_of_the_start() {
+        let frames = "0108610200\n010A000001\n0142020001\n03000A\n";
+        let looks = "0208610001\n020A000001\n0242200002\n0242110001\n030014\n";
+        let after = answers(&format!("{frames}18\n{looks}"));
+        let (_, after) = after.split_once("98\n").unwrap();
+        assert_eq!(after, answers(looks));
+    }
+
+    #[test]
+    fn points_of_the_table_as_it_stands() {
+        let table = "1100800006000000048000000200640000";
+        for (point, answer) in [
+            ("1B000100", "9B01000000000000000000000000"),
+            ("1B000101", "9B01FFFB00000000000000000028"),
+            ("1B000102", "9B01000003E8000000000000003C"),
+            ("1B000103", "9B00"),
+            ("1B040100", "9B00"),
+            ("1B001000", "9B00"),
+            ("1B000140", "9B00"),
+            ("1BFFFFFF", "9B00"),
+        ] {
+            let given = answers(&format!("{table}\n{point}"));
+            assert_eq!(given, format!("91000006\n{answer}\n"), "{point}");
+        }
+    }
+
+    #[test]
+    fn the_latest_time() {
+        let table = format!("1137800080{}", "FFFF".repeat(128));
+        let given = answers(&format!("{table}\n1B030F3F\n1B030F40"));
+        let time = 41_287_050;
+        assert_eq!(given, format!("91000080\n9B01FFFFFFF6{time:016X}\n9B00\n"));
+    }
+
+    #[test]
+    fn readings_as_whole_numbers() {
+        for (line, answer) in [
+            ("1C00808000", "9C01FFFB0000"),
+            ("1C00817FFF", "9C0400007FFF"),
+            ("1C0A047FFF", "9C010004FFF6"),
+            ("1C0A32FFFF", "9C01FFFFFFF6"),
+            ("1C08A00001", "9C010000000A"),
+            ("1C08608000", "9C02FFFF8000"),
+            ("1C0A310100", "9C0200000100"),
+            ("1C08FFFFFF", "9C030000FFFF"),
+            ("1C0081FFFF", "9C040000FFFF"),
+            ("1C4202FFFF", "9C050000FFFF"),
+            ("1C0A34FFFF", "9C050000FFFF"),
+            ("1C0820FFFF", "9C000000FFFF"),
+            ("1CFFFF0000", "9C0000000000"),
+        ] {
+            assert_eq!(answers(line), format!("{answer}\n"), "{line}");
+        }
+    }
+
+    #[test]
+    fn damaged_lines_answer_ff() {
+        let damaged = "10 11 12 13 14 15 16 17 19 1A 1B 1C 1D 1E 1F 180 1800 110080 1100800 \
+            11008000010 110080000100070 1100800001000G 1208600001000155A 1208600001000155AA0 \
+            1208600001000155aa 12086000010001 1B0000 1B00000 1B0000000 1B000000000 1b000000 \
+            1C080000 1C0800000 1C080000000 1C0800000000 1c08000000 1C08000G00 91 98 9B00 14000A 1400000001 \
+            1500010000 1700 1701 1900 1A00 1000";
+        for line in damaged.split_whitespace() {
+            assert_eq!(answers(line), "FF\n", "{line}");
+        }
+        assert_eq!(answers("18\r\n18 \n 18\n1 8\n18"), "FF\nFF\nFF\nFF\n98\n");
+    }
+}

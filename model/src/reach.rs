@@ -1,0 +1,327 @@
+//! What sessions reach: things that are counted while they are played.
+
+use std::fmt;
+
+use crate::bench::Frame;
+use crate::card::{Card, Look, CHANNELS, LOAD_AT};
+use crate::line;
+use crate::program::Program;
+
+const NO_FRAME: &str = "lines that are no frame";
+const SHOWN: &str = "plotted points shown";
+const NOT_SHOWN: &str = "plotted points not shown";
+const RESETS: &str = "resets while a ramp runs";
+const LOAD_AND_EVENT: &str = "ticks with a load by counting and an accepted event";
+const WHILE_RUNNING: &str = "triggers while a ramp runs";
+const WHILE_OLDER: &str = "triggers while counting with an older ramp";
+const REPLACING: &str = "triggers that replace one no channel has loaded";
+const OVERFLOWS: &str = "overflowed samples";
+const LONG_WAIT: &str = "sessions where a channel waits for a load for more than 10 ticks";
+const LONG_WAIT_OF_ALL: &str =
+    "sessions where every channel waits for a load for more than 10 ticks";
+
+/// The kinds of panel readings, by their number in the answer.
+const READINGS: [&str; 6] = [
+    "nothing",
+    "volts",
+    "factor",
+    "microseconds",
+    "samples",
+    "plain",
+];
+
+/// A wait for a load that is called long: more than these ticks.
+const LONG: u32 = 10;
+
+/// The things that a program's sessions can reach, in the order of printing.
+fn things(program: Program) -> Vec<String> {
+    let bench = program == Program::Bench;
+    let more: &[u8] = &[0x11, 0x12, 0x18, 0x1B, 0x1C];
+    let mut things: Vec<String> = [0x01, 0x02, 0x03, 0x04]
+        .iter()
+        .chain(if bench { more } else { &[] })
+        .map(|&kind| frame_name(kind))
+        .collect();
+    things.push(NO_FRAME.to_string());
+    things.extend((0..=8).map(|number| number_name("writes", number)));
+    things.extend((0..=4).map(|number| number_name("reads", number)));
+    if bench {
+        things.extend(READINGS.map(reading_name));
+        things.extend([SHOWN, NOT_SHOWN, RESETS].map(String::from));
+    }
+    let of_both = [
+        LOAD_AND_EVENT,
+        WHILE_RUNNING,
+        WHILE_OLDER,
+        REPLACING,
+        OVERFLOWS,
+        LONG_WAIT,
+        LONG_WAIT_OF_ALL,
+    ];
+    things.extend(of_both.map(String::from));
+    things
+}
+
+fn frame_name(kind: u8) -> String {
+    format!("frames {kind:02X}")
+}
+
+fn number_name(transfers: &str, number: u8) -> String {
+    format!("{transfers} answered {number}")
+}
+
+fn reading_name(kind: &str) -> String {
+    format!("panel readings: {kind}")
+}
+
+/// The counts over all sessions played.
+pub struct Reach {
+    program: Program,
+    counts: Vec<(String, u64)>,
+}
+
+impl Reach {
+    pub fn new(program: Program) -> Self {
+        let zero = |thing| (thing, 0);
+        Reach {
+            program,
+            counts: things(program).into_iter().map(zero).collect(),
+        }
+    }
+
+    fn add(&mut self, thing: &str, more: u64) {
+        let count = self.counts.iter_mut().find(|(name, _)| name == thing);
+        let (_, count) = count.expect("every thing counted is listed");
+        *count += more;
+    }
+
+    /// Plays a session on a reset card.
+    pub fn play(&mut self, session: &[u8]) {
+        let mut player = Player::new(self);
+        let lines = session.strip_suffix(b"\n").unwrap_or(session);
+        if !session.is_empty() {
+            lines
+                .split(|&byte| byte == b'\n')
+                .for_each(|line| player.line(line));
+        }
+        player.finish();
+    }
+}
+
+impl fmt::Display for Reach {
+    fn fmt(&self, out: &mut fmt::Formatter) -> fmt::Result {
+        for (thing, count) in &self.counts {
+            writeln!(out, "{count:>12} {thing}")?;
+        }
+        Ok(())
+    }
+}
+
+/// One session as it is played.
+struct Player<'a> {
+    reach: &'a mut Reach,
+    card: Card,
+    /// The ticks each channel has waited for its load since the last trigger.
+    waited: [u32; CHANNELS],
+    long_wait: bool,
+    long_wait_of_all: bool,
+}
+
+impl<'a> Player<'a> {
+    fn new(reach: &'a mut Reach) -> Self {
+        Player {
+            reach,
+            card: Card::reset(),
+            waited: [0; CHANNELS],
+            long_wait: false,
+            long_wait_of_all: false,
+        }
+    }
+
+    /// Counts what is of the whole session.
+    fn finish(self) {
+        self.reach.add(LONG_WAIT, u64::from(self.long_wait));
+        self.reach
+            .add(LONG_WAIT_OF_ALL, u64::from(self.long_wait_of_all));
+    }
+
+    /// Ticks are played singly, all other lines through the program.
+    fn line(&mut self, line: &[u8]) {
+        let frame = self.reach.program.frame(line);
+        match frame {
+            Some(Frame::Line(line::Frame::Ticks(ticks))) => {
+                self.reach.add(&frame_name(0x03), 1);
+                for _ in 0..ticks {
+                    self.tick();
+                }
+            }
+            Some(Frame::Line(line::Frame::Event(event))) => {
+                self.reach.add(&frame_name(0x04), 1);
+                self.event(event);
+            }
+            _ => self.answered(line, frame),
+        }
+    }
+
+    /// A tick; whether a load by counting came on it.
+    fn tick(&mut self) -> bool {
+        let before = self.card.looks();
+        self.card.tick();
+        let mut overflowed = 0;
+        for (channel, after) in self.card.looks().iter().enumerate() {
+            let grown = after.overflows.wrapping_sub(before[channel].overflows);
+            overflowed += u64::from(grown);
+            let waits = after.countdown > LOAD_AT;
+            self.waited[channel] = if waits { self.waited[channel] + 1 } else { 0 };
+        }
+        if overflowed > 0 {
+            self.reach.add(OVERFLOWS, overflowed);
+        }
+        self.long_wait |= self.waited.iter().any(|&ticks| ticks > LONG);
+        self.long_wait_of_all |= self.waited.iter().all(|&ticks| ticks > LONG);
+        before.iter().any(|look| look.countdown == LOAD_AT + 1)
+    }
+
+    fn event(&mut self, event: u8) {
+        let loaded = self.tick();
+        let looks = self.card.looks();
+        if self.card.receive(event) {
+            self.triggered(looks);
+            self.reach.add(LOAD_AND_EVENT, u64::from(loaded));
+        }
+    }
+
+    /// A trigger was accepted; the looks are those just before it.
+    fn triggered(&mut self, looks: [Look; CHANNELS]) {
+        let runs = looks.iter().any(|look| look.ramp_runs);
+        let older = looks
+            .iter()
+            .any(|look| look.ramp_runs && look.countdown > 0);
+        let replaced = looks.iter().all(|look| look.countdown > LOAD_AT);
+        self.reach.add(WHILE_RUNNING, u64::from(runs));
+        self.reach.add(REPLACING, u64::from(replaced));
+        self.reach.add(WHILE_OLDER, u64::from(older));
+        self.waited = [0; CHANNELS];
+    }
+
+    /// A line without ticks: the answer tells what it was.
+    fn answered(&mut self, line: &[u8], frame: Option<Frame>) {
+        let looks = self.card.looks();
+        let mut answer = Vec::new();
+        let program = self.reach.program;
+        program
+            .answer(&mut self.card, line, &mut answer)
+            .expect("a vector takes every answer");
+        let byte = |index: usize| line::field(&answer[2 * index..2 * index + 2]).unwrap() as u8;
+        if frame.is_none() {
+            return self.reach.add(NO_FRAME, 1);
+        }
+        // An answer's first byte is the frame's with the highest bit set.
+        let kind = byte(0) - 0x80;
+        self.reach.add(&frame_name(kind), 1);
+        match kind {
+            0x01 | 0x11 => self.reach.add(&number_name("writes", byte(1)), 1),
+            0x02 | 0x12 => self.reach.add(&number_name("reads", byte(1)), 1),
+            0x18 if looks.iter().any(|look| look.ramp_runs) => self.reach.add(RESETS, 1),
+            0x1B => self.reach.add([NOT_SHOWN, SHOWN][usize::from(byte(1))], 1),
+            0x1C => {
+                let reading = READINGS[usize::from(byte(1))];
+                self.reach.add(&reading_name(reading), 1);
+            }
+            _ => {}
+        }
+        if frame.is_some_and(|frame| is_manual(&frame)) && byte(3) > 0 {
+            self.triggered(looks);
+        }
+    }
+}
+
+/// Whether the frame writes the manual trigger; one word of it can be done.
+fn is_manual(frame: &Frame) -> bool {
+    matches!(
+        frame,
+        Frame::Line(line::Frame::Write { start: 0x4202, .. }) | Frame::Write { start: 0x4202, .. }
+    )
+}
+
+#[cfg(test)]
+mod tests {
+    use super::*;
+
+    /// The things reached by a session, with their counts.
+    fn reached(program: Program, session: &str) -> Vec<(String, u64)> {
+        let mut reach = Reach::new(program);
+        reach.play(session.as_bytes());
+        reach.counts.retain(|&(_, count)| count > 0);
+        reach.counts
+    }
+
+    fn count(session: &str, thing: &str) -> u64 {
+        let counts = reached(Program::Bench, session);
+        counts
+            .iter()
+            .find(|(name, _)| name == thing)
+            .map_or(0, |&(_, count)| count)
+    }
+
+    /// Channel 0 runs a long ramp of level 1; level 2 has a delay of 50.
+    const RUNNING: &str = "0108010001\n0100800000000A0000\n0108E20032\n010A000001\n\
+        01400800100011\n01401000200021\n0142000001\n0142020001\n03000C\n";
+
+    #[test]
+    fn every_line_of_a_session_counts_once() {
+        let counts = reached(Program::Rampcard, "\n03000A\n04FE\n0108200001\n0208600001");
+        let expected = [
+            ("frames 01", 1),
+            ("frames 02", 1),
+            ("frames 03", 1),
+            ("frames 04", 1),
+            (NO_FRAME, 1),
+            ("writes answered 2", 1),
+            ("reads answered 0", 1),
+        ];
+        assert_eq!(counts, expected.map(|(name, n)| (name.to_string(), n)));
+        assert_eq!(reached(Program::Bench, ""), []);
+        assert_eq!(count("\n", NO_FRAME), 1);
+    }
+
+    #[test]
+    fn what_only_the_bench_reaches() {
+        let looks = "1B000000\n1B000001\n1C0A040001\n1C08200001\n";
+        assert_eq!(count(looks, SHOWN), 1);
+        assert_eq!(count(looks, NOT_SHOWN), 1);
+        assert_eq!(count(looks, "panel readings: volts"), 1);
+        assert_eq!(count(looks, "panel readings: nothing"), 1);
+        assert_eq!(count(&format!("{RUNNING}18\n18\n"), RESETS), 1);
+        assert_eq!(count(&format!("{RUNNING}18\n18\n"), "frames 18"), 2);
+    }
+
+    #[test]
+    fn triggers_and_loads() {
+        let again = format!("{RUNNING}0142020002\n030001\n0142020002\n");
+        assert_eq!(count(&again, WHILE_RUNNING), 2);
+        assert_eq!(count(&again, WHILE_OLDER), 1);
+        // The load by counting comes on tick 40 after the trigger of level 2.
+        for (ticks, together) in [("26", 0), ("27", 1), ("28", 0)] {
+            let session = format!("{RUNNING}0420\n0300{ticks}\n0410\n");
+            assert_eq!(count(&session, LOAD_AND_EVENT), together, "{ticks}");
+        }
+    }
+
+    #[test]
+    fn waits_and_overflows() {
+        assert_eq!(count(RUNNING, LONG_WAIT), 0);
+        let session = format!("{RUNNING}0142020002\n03000A\n");
+        assert_eq!(count(&session, LONG_WAIT), 0);
+        let session = format!("{RUNNING}0142020002\n03000B\n");
+        assert_eq!(count(&session, LONG_WAIT), 1);
+        assert_eq!(count(&session, LONG_WAIT_OF_ALL), 0);
+        let session = format!("0118E20032\n0128E20032\n0138E20032\n{session}");
+        assert_eq!(count(&session, LONG_WAIT_OF_ALL), 1);
+        assert_eq!(count(&session, REPLACING), 0);
+        assert_eq!(count(&format!("{session}0142020001\n"), REPLACING), 1);
+        let full = "0108610200\n0108410001\n0108010001\n0100807FFF00037FFF0000\n010A000001\n";
+        let session = format!("{full}0142020001\n030064\n");
+        assert_eq!(count(&session, OVERFLOWS), 4);
+    }
+}
