@@ -44,21 +44,21 @@ impl Frame {
         let (kind, rest) = line.split_at_checked(2)?;
         match field(kind)? {
             0x01..=0x04 => line::Frame::parse(line).map(Frame::Line),
-            0x11 => Frame::parse_write(&fields(rest, 4)?),
-            0x12 => Frame::parse_read(&fields(rest, 4)?),
+            0x11 => Frame::parse_write(fields(rest, 4, &mut [0; 2 + MAX_SLICE])?),
+            0x12 => Frame::parse_read(fields(rest, 4, &mut [0; 4])?),
             0x18 => rest.is_empty().then_some(Frame::Reset),
-            0x1B => Frame::parse_plot(&fields(rest, 2)?),
-            0x1C => Frame::parse_panel(&fields(rest, 4)?),
+            0x1B => Frame::parse_plot(fields(rest, 2, &mut [0; 3])?),
+            0x1C => Frame::parse_panel(fields(rest, 4, &mut [0; 2])?),
             _ => None,
         }
     }
 
-    /// Start, count and a slice of up to 4096 words, whatever the count says.
+    /// Start, count and a slice of words, whatever the count says.
     fn parse_write(fields: &[u16]) -> Option<Frame> {
         let &[start, count, ref slice @ ..] = fields else {
             return None;
         };
-        (slice.len() <= MAX_SLICE).then(|| Frame::Write {
+        Some(Frame::Write {
             start,
             count: usize::from(count),
             slice: slice.to_vec(),

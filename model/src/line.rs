@@ -30,11 +30,17 @@ pub fn field(digits: &[u8]) -> Option<u16> {
     })
 }
 
-/// The values of fields of the same width that make up all the digits.
-pub fn fields(digits: &[u8], width: usize) -> Option<Vec<u16>> {
-    let whole = digits.len() % width == 0;
-    let values = || digits.chunks_exact(width).map(field).collect();
-    whole.then(values).flatten()
+/// The values of fields of the same width that make up all the digits, put
+/// into the room; None also if there are more of them than it takes.
+pub fn fields<'a>(digits: &[u8], width: usize, room: &'a mut [u16]) -> Option<&'a [u16]> {
+    let room = room.get_mut(..digits.len() / width)?;
+    if digits.len() % width != 0 {
+        return None;
+    }
+    for (value, digits) in room.iter_mut().zip(digits.chunks_exact(width)) {
+        *value = field(digits)?;
+    }
+    Some(room)
 }
 
 impl Frame {
@@ -43,8 +49,8 @@ impl Frame {
         let (kind, rest) = line.split_at_checked(2)?;
         let kind = field(kind)?;
         let width = if kind == 0x04 { 2 } else { 4 };
-        match (kind, &fields(rest, width)?[..]) {
-            (0x01, &[start, ref words @ ..]) if words.len() <= MAX_WORDS => Some(Frame::Write {
+        match (kind, fields(rest, width, &mut [0; 1 + MAX_WORDS])?) {
+            (0x01, &[start, ref words @ ..]) => Some(Frame::Write {
                 start,
                 words: words.to_vec(),
             }),

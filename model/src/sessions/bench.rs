@@ -1,10 +1,10 @@
 //! What sessions of the bench program have beside the line program's steps.
 
 use super::{digits, Session, Step, EDGES, REGIONS, UNLISTED};
+use crate::bench::{LONGEST, MAX_SLICE};
 
-/// The longest slice of a frame, and its digits in a line.
-const SLICE: u16 = 0x1000;
-const LONGEST: usize = 16_394;
+/// The longest slice of a frame.
+const SLICE: u16 = MAX_SLICE as u16;
 
 /// The kinds of steps a session of the bench program is made of.
 pub(super) const STEPS: [Step; 16] = [
@@ -374,9 +374,6 @@ impl Session {
     /// The longest frame, its count small or whole, as it is, one digit too
     /// long, with a word too many, or far beyond; or that many other digits.
     fn line_at_the_limit(&mut self) {
-        if self.random.percent(50) {
-            return self.bad_slice();
-        }
         let base = self.base();
         let table = self.tables[0];
         let count = self.random.pick(&[1, 3, 0x0080, SLICE, SLICE + 1]);
