@@ -14,19 +14,7 @@ use Rattle.card.specs.Card.{State, state}
 use Rattle.line.specs.declared.Answered.{Answered}
 use Rattle.line.specs.Answer.{stepOf, Answers}
 use Rattle.line.specs.Session.{Flow, flow, bare, after, most, longest, opened, ended, kept, byteOf, feedOf, takenOf, finishOf, Feeds, Keeps}
-use Rattle.line.proofs.Digits.{then-at}
-
--- bytes held beyond the buffer's end are none
-pub take-min : (n : ℕ) (l : List ℕ) → take (min n (length l)) l ≡ take n l
-take-min n l = go _ refl
-  where
-    go : (q : Bool) → ltb n (length l) ≡ q → take (min n (length l)) l ≡ take n l
-    go true e = let h : n < length l = ltb-true _ _ e in let m : min n (length l) ≡ n = omega arith in ap (λ (k : ℕ). take k l) m
-    go false e =
-        let h : length l ≤ n = ltb-false _ _ e in
-        let m : min n (length l) ≡ length l = omega arith in
-        let z : length l ≤ length l = omega arith in
-        ap (λ (k : ℕ). take k l) m ∙ take-all (length l) l z ∙ sym (take-all n l h)
+use Rattle.digits.proofs.Digits.{take-min, then-at}
 
 -- ---- one byte
 

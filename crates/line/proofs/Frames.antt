@@ -8,6 +8,7 @@ use borrow.Author.Tests.{leb-true}
 use lib.Dec.{leb, eqb, ltb}
 use lib.ListN.{length, set, take, replicate, length-set}
 use lib.Seq.{sets, length-take-le}
+use Rattle.digits.specs.Digits.{allDigits, byteAt, wordAt, hex2, hex4, hexAll}
 use Rattle.map.specs.declared.Found.{Found}
 use Rattle.map.specs.declared.Found.the-variants.{At, Nothing}
 use Rattle.map.specs.Map.{regionOf}
@@ -20,9 +21,10 @@ use Rattle.transfer.specs.Word.{readWord}
 use Rattle.transfer.specs.Transfer.{Out, Filled, numberOf, processedOf, written, writeOf, readWords, readIn, readOf, badCount, readable}
 use Rattle.line.specs.declared.Frame.{Frame}
 use Rattle.line.specs.declared.Frame.the-variants.{Write, Read, Ticks, Event, Bad}
-use Rattle.line.specs.Frame.{allDigits, byteAt, wordAt, wordsIn, named, frameOf, writeFrame, readFrame, ticksFrame, eventFrame}
-use Rattle.line.specs.Answer.{hex2, hex4, hexAll, headOf, readText, outputsOf, outputsText, wrote, ticked, onFrame, stepOf, Puts, Answers}
-use Rattle.line.proofs.Digits.{then-at, length-hex2, length-headOf, length-read}
+use Rattle.line.specs.Frame.{wordsIn, named, frameOf, writeFrame, readFrame, ticksFrame, eventFrame}
+use Rattle.line.specs.Answer.{headOf, readText, outputsOf, outputsText, wrote, ticked, onFrame, stepOf, Puts, Answers}
+use Rattle.digits.proofs.Digits.{then-at, length-hex2}
+use Rattle.line.proofs.Heads.{length-headOf, length-read}
 
 -- ---- frames by their name
 

@@ -1,4 +1,4 @@
-pub mod Digits
+pub mod Heads
 pub mod Frames
 pub mod Flows
 pub mod Session

@@ -10,6 +10,7 @@ use borrow.Author.Tests.{eq-eqb, ne-eqb, eqb-true, ltb-true, ltb-false, le-leb, 
 use lib.Dec.{eqb, ltb, leb}
 use lib.ListN.{length, set, take, drop, replicate, length-append, length-set, length-take, length-drop}
 use lib.Seq.{take-suc-set, take-all, take-append-le, length-take-le}
+use Rattle.digits.specs.Digits.{allDigits, byteAt, wordAt, hex2, hex4, hexAll}
 use Rattle.card.specs.declared.Card.{Card}
 use Rattle.card.specs.Card.{State, state}
 use Rattle.card.specs.Reset.{resetOf}
@@ -18,10 +19,10 @@ use Rattle.transfer.specs.Transfer.{Out, Filled, numberOf, processedOf, writeOf
 use Rattle.line.specs.declared.Frame.{Frame}
 use Rattle.line.specs.declared.Frame.the-variants.{Write, Read, Ticks, Event, Bad}
 use Rattle.line.specs.declared.Stream.{Stream}
-use Rattle.line.specs.Frame.{allDigits, byteAt, wordAt, wordsIn, wordsOf, frameOf, writeFrame, readFrame, ticksFrame, eventFrame}
-use Rattle.line.specs.Answer.{hex2, hex4, hexAll, headOf, outputsOf, outputsText, Step, onFrame, stepOf}
+use Rattle.line.specs.Frame.{wordsIn, wordsOf, frameOf, writeFrame, readFrame, ticksFrame, eventFrame}
+use Rattle.line.specs.Answer.{headOf, outputsOf, outputsText, Step, onFrame, stepOf}
 use Rattle.line.specs.Session.{linesFrom, linesOf, answersOf, session, Flow, flow, bare, after, most, longest, ended, kept, byteOf, feedOf, takenOf, finishOf, Feeds, streamOf, Fed, Finished, serveOf, writtenOf, joined, endsIn}
-use Rattle.line.proofs.Digits.{take-sets}
+use Rattle.digits.proofs.Digits.{take-sets}
 use Rattle.line.proofs.Frames.{step-is}
 use Rattle.line.proofs.Flows.{kept-is, feed-append, feed-after, taken-some}
 

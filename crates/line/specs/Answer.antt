@@ -1,11 +1,10 @@
 -- 'Answer line': the answer to a line, and the state after it.
 use mathlib.Core.Path.{_≡_}
-use mathlib.Core.Bool.{cond}
 use mathlib.Core.List.{List, [], _∷_, _++_}
-use Prim.Native.Nat.{ℕ, _+_, _/_, _%_, _≤_}
-use lib.Dec.{ltb}
+use Prim.Native.Nat.{ℕ, _+_, _≤_}
 use lib.ListN.{length, take, replicate}
 use lib.Seq.{sets}
+use Rattle.digits.specs.Digits.{hex2, hex4, hexAll}
 use Rattle.card.specs.declared.Card.{Card}
 use Rattle.card.specs.Card.{State, state, channelOf}
 use Rattle.card.specs.Tick.{tickWith, ticks}
@@ -14,25 +13,6 @@ use Rattle.line.specs.declared.Frame.{Frame}
 use Rattle.line.specs.declared.Frame.the-variants.{Write, Read, Ticks, Event, Bad}
 use Rattle.line.specs.declared.Answered.{Answered}
 use Rattle.line.specs.Frame.{wordsOf, frameOf}
-
--- ---- digits written
-
--- the digit of a number below 16
-abbrev pub digitOf : ℕ → ℕ
-digitOf n = cond (ltb n 10) (48 + n) (55 + n)
-
--- '2 digits'
-unfoldable pub hex2 : ℕ → List ℕ
-hex2 x = digitOf (x / 16 % 16) ∷ digitOf (x % 16) ∷ []
-
--- '4 digits'
-unfoldable pub hex4 : ℕ → List ℕ
-hex4 x = hex2 (x / 256) ++ hex2 x
-
--- the digits of words, one after the other
-unfoldable pub hexAll : List ℕ → List ℕ
-hexAll [] = []
-hexAll (w ∷ ws) = hex4 w ++ hexAll ws
 
 -- ---- the answer lines
 

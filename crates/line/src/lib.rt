@@ -2,15 +2,16 @@
 use card::Card;
 ghost use mathlib.Core.Path.{_≡_};
 ghost use mathlib.Core.List.{[]};
-ghost use Prim.Native.Nat.{_+_, _*_, _^_, _≤_, _<_, min};
-ghost use lib.ListN.{set, take, length, getD, replicate};
+ghost use Prim.Native.Nat.{_+_, _^_, _≤_, _<_, min};
+ghost use lib.ListN.{replicate};
 ghost use lib.Seq.{sets};
 ghost use Rattle.word.specs.Lent.{lent, left};
-ghost use Rattle.card.specs.Card.{state, channelOf};
-ghost use Rattle.card.specs.Reset.{settingsReset, tablesReset, cardReset};
+ghost use Rattle.digits.specs.Digits.{hex2};
+ghost use Rattle.card.specs.Card.{before, LeavesWhole, channelOf};
+ghost use Rattle.card.specs.Reset.{resetOf};
 ghost use Rattle.transfer.specs.Transfer.{readOf};
-ghost use Rattle.line.specs.Frame.{isDigit, valueOf, allDigits, byteAt, wordAt, wordsOf, frameOf, writeFrame, readFrame, ticksFrame, eventFrame};
-ghost use Rattle.line.specs.Answer.{digitOf, hex2, hex4, hexAll, headOf, readText, outputsOf, outputsText, onFrame, stepOf, Puts, Answers};
+ghost use Rattle.line.specs.Frame.{frameOf, writeFrame, readFrame, ticksFrame, eventFrame};
+ghost use Rattle.line.specs.Answer.{headOf, readText, outputsOf, outputsText, onFrame, stepOf, Puts, Answers};
 ghost use Rattle.line.specs.Session.{streamOf, opened, ended, flow, Feeds, Fed, Finished, Keeps};
 
 // What a line says.
@@ -38,17 +39,17 @@ pub struct Stream {
 }
 
 // The reset card on which a session starts.
-pub fn start(settings: &mut [u16], tables: &mut [u16]) -> Card
-    ensures { λ r. ⌜ (r ≡ cardReset) × (left settings ≡ settingsReset (lent settings)) × (left tables ≡ tablesReset (lent tables)) ⌝ }
+pub fn start(settings: &mut [u16; 16960], tables: &mut [u16; 512]) -> Card
+    ensures { λ r. ⌜ LeavesWhole (resetOf (lent settings) (lent tables)) r settings tables ⌝ }
 {
     card::reset(settings, tables)
 }
 
 // Bytes of a chunk, one after the other, as long as `out` has room for one more answer.
 pub fn feed(
-    settings: &mut [u16],
-    tables: &mut [u16],
-    line: &mut [u8],
+    settings: &mut [u16; 16960],
+    tables: &mut [u16; 512],
+    line: &mut [u8; 263],
     out: &mut [u8],
     card: Card,
     held: usize,
@@ -80,9 +81,9 @@ pub fn feed(
 
 // The end of the input: a line that has begun is answered, if `out` has room for it.
 pub fn finish(
-    settings: &mut [u16],
-    tables: &mut [u16],
-    line: &[u8],
+    settings: &mut [u16; 16960],
+    tables: &mut [u16; 512],
+    line: &[u8; 263],
     out: &mut [u8],
     card: Card,
     held: usize,
@@ -100,14 +101,39 @@ pub fn finish(
     reached(a.card, 0, a.end, 0)
 }
 
+// The answer to one line, laid into the first bytes of `out`; a line that is no frame answers FF.
+pub fn answer_line(
+    settings: &mut [u16; 16960],
+    tables: &mut [u16; 512],
+    card: Card,
+    line: &[u8],
+    out: &mut [u8],
+) -> Answered
+    ensures { λ r. ⌜ Answers (stepOf (before card settings tables) (lent line)) 0 (lent out) (left out) (left settings) (left tables) r ⌝ }
+{
+    answer(settings, tables, card, line, out, 0)
+}
+
+// The head of a transfer's answer from place `at` on: its name, the number, the words processed.
+pub fn put_head(out: &mut [u8], at: usize, name: usize, number: u16, processed: usize)
+    ensures { λ _. ⌜ left out ≡ sets (lent out) at (headOf name number processed) ⌝ }
+{
+    if out.len() <= at {
+        return;
+    }
+    digits::put2(out, at, name);
+    digits::put2(out, at + 2, number as usize);
+    digits::put4(out, at + 4, processed);
+}
+
 // The frame that a line is: its first byte names it.
 pub fn parse(s: &[u8]) -> Frame
     ensures { λ r. ⌜ r ≡ frameOf (lent s) ⌝ }
 {
-    if !all_digits(s) {
+    if !digits::all_digits(s) {
         return Frame::Bad;
     }
-    match byte_at(s, 0) {
+    match digits::byte_at(s, 0) {
         1 => write_frame(s),
         2 => read_frame(s),
         3 => ticks_frame(s),
@@ -132,8 +158,8 @@ fn reached(card: Card, held: usize, end: usize, taken: usize) -> Stream
 
 // A line ends: it is answered, and LF ends the answer.
 fn end_line(
-    settings: &mut [u16],
-    tables: &mut [u16],
+    settings: &mut [u16; 16960],
+    tables: &mut [u16; 512],
     line: &[u8],
     out: &mut [u8],
     card: Card,
@@ -141,13 +167,13 @@ fn end_line(
     at: usize,
 ) -> Answered
     requires { ⌜ at < 2 ^ 63 ⌝ }
-    ensures { λ r. ⌜ Feeds (ended (flow (state card (lent settings) (lent tables)) (lent line) held [])) at (lent out) (left out) (left settings) (left tables) (lent line) (r .card) 0 (r .end) ⌝ }
+    ensures { λ r. ⌜ Feeds (ended (flow (before card settings tables) (lent line) held [])) at (lent out) (left out) (left settings) (left tables) (lent line) (r .card) 0 (r .end) ⌝ }
     ensures { λ r. ⌜ r .end ≤ at + 265 ⌝ }
 {
     let n = least(held, line.len());
     let a = answer(settings, tables, card, &line[..n], out, at);
     let end = a.end;
-    put(out, end, 10);
+    digits::put(out, end, 10);
     let k = a.card;
     Answered {
         card: k,
@@ -156,12 +182,12 @@ fn end_line(
 }
 
 // A line goes on: the byte is kept while there is room, and how many are held then.
-fn keep(line: &mut [u8], held: usize, b: u8) -> usize
+fn keep(line: &mut [u8; 263], held: usize, b: u8) -> usize
     requires { ⌜ held ≤ 263 ⌝ }
     ensures { λ r. ⌜ Keeps (lent line) held b (left line) r ⌝ }
 {
     if held < 263 {
-        put(line, held, b);
+        digits::put(line, held, b);
         held + 1
     } else {
         held
@@ -179,15 +205,15 @@ fn least(a: usize, b: usize) -> usize
 
 // The answer to a line, laid into the buffer from `at` on.
 fn answer(
-    settings: &mut [u16],
-    tables: &mut [u16],
+    settings: &mut [u16; 16960],
+    tables: &mut [u16; 512],
     card: Card,
     line: &[u8],
     out: &mut [u8],
     at: usize,
 ) -> Answered
     requires { ⌜ at < 2 ^ 63 ⌝ }
-    ensures { λ r. ⌜ Answers (stepOf (state card (lent settings) (lent tables)) (lent line)) at (lent out) (left out) (left settings) (left tables) r ⌝ }
+    ensures { λ r. ⌜ Answers (stepOf (before card settings tables) (lent line)) at (lent out) (left out) (left settings) (left tables) r ⌝ }
 {
     match parse(line) {
         Frame::Write { start, count } => answer_write(
@@ -215,8 +241,8 @@ fn answer(
 
 // 81: a write of the line's words.
 fn answer_write(
-    settings: &mut [u16],
-    tables: &mut [u16],
+    settings: &mut [u16; 16960],
+    tables: &mut [u16; 512],
     card: Card,
     line: &[u8],
     start: u16,
@@ -225,10 +251,10 @@ fn answer_write(
     at: usize,
 ) -> Answered
     requires { ⌜ (at < 2 ^ 63) × (count ≤ 64) ⌝ }
-    ensures { λ r. ⌜ Answers (onFrame (state card (lent settings) (lent tables)) (lent line) (Frame.Write start count)) at (lent out) (left out) (left settings) (left tables) r ⌝ }
+    ensures { λ r. ⌜ Answers (onFrame (before card settings tables) (lent line) (Frame.Write start count)) at (lent out) (left out) (left settings) (left tables) r ⌝ }
 {
     let mut buffer = [0u16; 64];
-    words(line, count, &mut buffer);
+    digits::words(line, 6, count as u16, &mut buffer);
     let w = transfer::write(settings, tables, card, start, count, &buffer[..count]);
     let answer = w.answer;
     put_head(
@@ -247,7 +273,7 @@ fn answer_write(
 
 // 82: a read, with the words read.
 fn answer_read(
-    settings: &[u16],
+    settings: &[u16; 16960],
     card: Card,
     start: u16,
     count: usize,
@@ -261,14 +287,14 @@ fn answer_read(
     let answer = transfer::read(settings, card, start, count, &mut buffer);
     let n = transfer::processed(answer);
     put_head(out, at, 0x82, transfer::number(answer), n);
-    put_words(out, at + 8, &buffer, n);
+    digits::put_words(out, at + 8, &buffer, n as u16);
     at + 8 + 4 * n
 }
 
 // 83: ticks with no event.
 fn answer_ticks(
-    settings: &[u16],
-    tables: &mut [u16],
+    settings: &[u16; 16960],
+    tables: &mut [u16; 512],
     card: Card,
     line: &[u8],
     n: u16,
@@ -276,7 +302,7 @@ fn answer_ticks(
     at: usize,
 ) -> Answered
     requires { ⌜ at < 2 ^ 63 ⌝ }
-    ensures { λ r. ⌜ Answers (onFrame (state card (lent settings) (lent tables)) (lent line) (Frame.Ticks n)) at (lent out) (left out) (lent settings) (left tables) r ⌝ }
+    ensures { λ r. ⌜ Answers (onFrame (before card settings tables) (lent line) (Frame.Ticks n)) at (lent out) (left out) (lent settings) (left tables) r ⌝ }
 {
     let k = card::run(settings, tables, card, n as u32);
     let end = put_outputs(k, 0x83, out, at);
@@ -285,8 +311,8 @@ fn answer_ticks(
 
 // 84: one tick with its event.
 fn answer_event(
-    settings: &[u16],
-    tables: &mut [u16],
+    settings: &[u16; 16960],
+    tables: &mut [u16; 512],
     card: Card,
     line: &[u8],
     e: u16,
@@ -294,7 +320,7 @@ fn answer_event(
     at: usize,
 ) -> Answered
     requires { ⌜ at < 2 ^ 63 ⌝ }
-    ensures { λ r. ⌜ Answers (onFrame (state card (lent settings) (lent tables)) (lent line) (Frame.Event e)) at (lent out) (left out) (lent settings) (left tables) r ⌝ }
+    ensures { λ r. ⌜ Answers (onFrame (before card settings tables) (lent line) (Frame.Event e)) at (lent out) (left out) (lent settings) (left tables) r ⌝ }
 {
     let k = card::tick(settings, tables, card, e);
     let end = put_outputs(k, 0x84, out, at);
@@ -306,7 +332,7 @@ fn answer_bad(card: Card, out: &mut [u8], at: usize) -> Answered
     requires { ⌜ at < 2 ^ 63 ⌝ }
     ensures { λ r. ⌜ (r .card ≡ card) × Puts (hex2 0xFF) at (lent out) (left out) (r .end) ⌝ }
 {
-    put2(out, at, 0xFF);
+    digits::put2(out, at, 0xFF);
     Answered {
         card: card,
         end: at + 2,
@@ -318,9 +344,9 @@ fn put_outputs(card: Card, name: usize, out: &mut [u8], at: usize) -> usize
     requires { ⌜ at < 2 ^ 63 ⌝ }
     ensures { λ r. ⌜ Puts (outputsText name card) at (lent out) (left out) r ⌝ }
 {
-    put2(out, at, name);
+    digits::put2(out, at, name);
     let o = outputs(card);
-    put_words(out, at + 2, &o, 4);
+    digits::put_words(out, at + 2, &o, 4);
     at + 18
 }
 
@@ -344,67 +370,6 @@ fn output(card: Card, c: usize) -> u16
     ch.shown.output
 }
 
-// The head of a transfer's answer: its name, the number, the words processed.
-fn put_head(out: &mut [u8], at: usize, name: usize, number: u16, processed: usize)
-    requires { ⌜ at < 2 ^ 63 ⌝ }
-    ensures { λ _. ⌜ left out ≡ sets (lent out) at (headOf name number processed) ⌝ }
-{
-    put2(out, at, name);
-    put2(out, at + 2, wide(number));
-    put4(out, at + 4, processed);
-}
-
-// The first n words, one after the other.
-fn put_words(out: &mut [u8], at: usize, words: &[u16], n: usize)
-    requires { ⌜ (at < 2 ^ 63 + 1000) × (n ≤ length (now words)) × (n ≤ 64) ⌝ }
-    ensures { λ _. ⌜ left out ≡ sets (lent out) at (hexAll (take n (lent words))) ⌝ }
-{
-    let mut i: usize = 0;
-    while i < n {
-        put4(out, at + 4 * i, wide(words[i]));
-        i = i + 1;
-    }
-}
-
-// Four digits.
-fn put4(out: &mut [u8], at: usize, x: usize)
-    requires { ⌜ at < 2 ^ 63 + 2000 ⌝ }
-    ensures { λ _. ⌜ left out ≡ sets (lent out) at (hex4 x) ⌝ }
-{
-    put2(out, at, x / 256);
-    put2(out, at + 2, x);
-}
-
-// Two digits.
-fn put2(out: &mut [u8], at: usize, x: usize)
-    requires { ⌜ at < 2 ^ 63 + 3000 ⌝ }
-    ensures { λ _. ⌜ left out ≡ sets (lent out) at (hex2 x) ⌝ }
-{
-    put(out, at, digit(x / 16 % 16));
-    put(out, at + 1, digit(x % 16));
-}
-
-// The digit of a number below 16.
-fn digit(n: usize) -> u8
-    requires { ⌜ n < 16 ⌝ }
-    ensures { λ r. ⌜ r ≡ digitOf n ⌝ }
-{
-    if n < 10 {
-        (48 + n) as u8
-    } else {
-        (55 + n) as u8
-    }
-}
-
-// Stores a byte at a place of lent bytes; past their end nothing is stored.
-fn put(out: &mut [u8], at: usize, b: u8)
-    ensures { λ _. ⌜ left out ≡ set (lent out) at b ⌝ }
-{
-    if at < out.len() {
-        out[at] = b;
-    }
-}
-
 // ---- frames
 
 // 01, a start, 0 to 64 words.
@@ -423,7 +388,7 @@ fn write_frame(s: &[u8]) -> Frame
         return Frame::Bad;
     }
     Frame::Write {
-        start: word_at(s, 2),
+        start: digits::word_at(s, 2),
         count: k,
     }
 }
@@ -436,12 +401,12 @@ fn read_frame(s: &[u8]) -> Frame
     if n != 10 {
         return Frame::Bad;
     }
-    let asked = word_at(s, 6);
+    let asked = digits::word_at(s, 6);
     if 64 < asked {
         return Frame::Bad;
     }
     Frame::Read {
-        start: word_at(s, 2),
+        start: digits::word_at(s, 2),
         count: wide(asked),
     }
 }
@@ -454,7 +419,7 @@ fn ticks_frame(s: &[u8]) -> Frame
     if n != 6 {
         return Frame::Bad;
     }
-    Frame::Ticks(word_at(s, 2))
+    Frame::Ticks(digits::word_at(s, 2))
 }
 
 // 04, an event.
@@ -465,80 +430,7 @@ fn event_frame(s: &[u8]) -> Frame
     if n != 4 {
         return Frame::Bad;
     }
-    Frame::Event(byte_at(s, 2))
-}
-
-// The first n words of a write frame.
-fn words(s: &[u8], n: usize, words: &mut [u16; 64])
-    requires { ⌜ n ≤ 64 ⌝ }
-    ensures { λ _. ⌜ left words ≡ sets (lent words) 0 (wordsOf n (lent s)) ⌝ }
-{
-    let mut i: usize = 0;
-    while i < n {
-        words[i] = word_at(s, 6 + 4 * i);
-        i = i + 1;
-    }
-}
-
-// ---- digits
-
-// Every byte is a digit.
-fn all_digits(s: &[u8]) -> bool
-    ensures { λ r. ⌜ r ≡ allDigits (lent s) ⌝ }
-{
-    let mut i = 0;
-    while i < s.len() {
-        if !is_digit(s[i]) {
-            return false;
-        }
-        i = i + 1;
-    }
-    true
-}
-
-// The four digits from place i on.
-fn word_at(s: &[u8], i: usize) -> u16
-    requires { ⌜ i < 900 ⌝ }
-    ensures { λ r. ⌜ r ≡ wordAt (lent s) i ⌝ }
-{
-    byte_at(s, i) * 256 + byte_at(s, i + 2)
-}
-
-// The two digits from place i on.
-fn byte_at(s: &[u8], i: usize) -> u16
-    requires { ⌜ i < 1000 ⌝ }
-    ensures { λ r. ⌜ (r ≡ byteAt (lent s) i) × (r < 256) ⌝ }
-{
-    value(get(s, i)) * 16 + value(get(s, i + 1))
-}
-
-// 0 to 9 or A to F.
-fn is_digit(b: u8) -> bool
-    ensures { λ r. ⌜ r ≡ isDigit b ⌝ }
-{
-    match b {
-        48..=57 => true,
-        65..=70 => true,
-        _ => false,
-    }
-}
-
-// A digit's value.
-fn value(b: u8) -> u16
-    ensures { λ r. ⌜ (r ≡ valueOf b) × (r < 16) ⌝ }
-{
-    match b {
-        48..=57 => (b as u16) - 48,
-        65..=70 => (b as u16) - 55,
-        _ => 0,
-    }
-}
-
-// The byte at a place of lent bytes; past their end it is 0.
-fn get(s: &[u8], i: usize) -> u8
-    ensures { λ r. ⌜ r ≡ getD (lent s) i 0 ⌝ }
-{
-    if i < s.len() { s[i] } else { 0 }
+    Frame::Event(digits::byte_at(s, 2))
 }
 
 // The same number.

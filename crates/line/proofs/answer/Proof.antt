@@ -17,7 +17,7 @@ enum-known-start c = search needs
 
 answer-write-requires : tie.Need-answer-write-requires
 answer-write-requires c κs =
-    let h = small-of (c .before .before .before .before .before .before .before .before .before .before .before .args .line .now) _ (sym (c .before .before .before .before .before .before .parse .ensures) ∙ c .before .before .before .before .start .given .1) in
+    let h = small-of (c .before .before .before .before .before .before .before .before .before .args .line .now) _ (sym (c .before .before .before .before .before .before .parse .ensures) ∙ c .before .before .before .before .start .given .1) in
     (search needs, h)
 
 enum-known-start-2 : tie.Need-enum-known-start-2
@@ -25,7 +25,7 @@ enum-known-start-2 c = search needs
 
 answer-read-requires : tie.Need-answer-read-requires
 answer-read-requires c κs =
-    let h = small-of (c .before .before .before .before .before .before .before .before .before .before .args .line .now) _ (sym (c .before .before .before .before .before .parse .ensures) ∙ c .before .before .before .start2 .given .1) in
+    let h = small-of (c .before .before .before .before .before .before .before .before .args .line .now) _ (sym (c .before .before .before .before .before .parse .ensures) ∙ c .before .before .before .start2 .given .1) in
     (search needs, h)
 
 enum-known-n : tie.Need-enum-known-n
@@ -49,74 +49,53 @@ answer-bad-requires c κs = search needs
 same-length : tie.Need-same-length
 same-length c = search needs
 
+returns : tie.Need-returns
+returns c =
+    let a = c .before .before .before .before .before .before .before .before .before .before .before .before .args in
+    let st : State = state (a .card) (a .settings .now) (a .tables .now) in
+    let g = c .before .before .before .before .before .before .before .start .given in
+    let e : frameOf (a .line .now) ≡ Write (g .0 .0) (g .0 .1 .0) = sym (c .before .before .before .before .before .before .before .before .before .parse .ensures) ∙ g .1 in
+    rw (step-is st (a .line .now) (Write (g .0 .0) (g .0 .1 .0)) e) (c .before .before .answer-write .ensures)
+
 same-length-2 : tie.Need-same-length-2
 same-length-2 c = search needs
 
-same-length-3 : tie.Need-same-length-3
-same-length-3 c = search needs
-
-returns : tie.Need-returns
-returns c =
-    let a = c .before .before .before .before .before .before .before .before .before .before .before .before .before .before .before .before .before .before .args in
-    let st : State = state (a .card) (a .settings .now) (a .tables .now) in
-    let g = c .before .before .before .before .before .before .before .before .before .before .before .start .given in
-    let e : frameOf (a .line .now) ≡ Write (g .0 .0) (g .0 .1 .0) = sym (c .before .before .before .before .before .before .before .before .before .before .before .before .before .parse .ensures) ∙ g .1 in
-    rw (step-is st (a .line .now) (Write (g .0 .0) (g .0 .1 .0)) e) (c .before .before .before .before .before .before .answer-write .ensures)
-
-same-length-4 : tie.Need-same-length-4
-same-length-4 c = search needs
-
-same-length-5 : tie.Need-same-length-5
-same-length-5 c = search needs
-
 returns-2 : tie.Need-returns-2
 returns-2 c =
-    let a = c .before .before .before .before .before .before .before .before .before .before .before .before .before .args in
+    let a = c .before .before .before .before .before .before .before .before .before .before .before .args in
     let st : State = state (a .card) (a .settings .now) (a .tables .now) in
     let g = c .before .before .before .before .before .before .start2 .given in
     let e : frameOf (a .line .now) ≡ Read (g .0 .0) (g .0 .1 .0) = sym (c .before .before .before .before .before .before .before .before .parse .ensures) ∙ g .1 in
     rw (step-is st (a .line .now) (Read (g .0 .0) (g .0 .1 .0)) e) (record { same = refl; puts = c .before .before .answer-read .ensures })
 
-same-length-6 : tie.Need-same-length-6
-same-length-6 c = search needs
-
-same-length-7 : tie.Need-same-length-7
-same-length-7 c = search needs
-
-same-length-8 : tie.Need-same-length-8
-same-length-8 c = search needs
+same-length-3 : tie.Need-same-length-3
+same-length-3 c = search needs
 
 returns-3 : tie.Need-returns-3
 returns-3 c =
-    let a = c .before .before .before .before .before .before .before .before .before .before .before .before .before .before .before .before .args in
+    let a = c .before .before .before .before .before .before .before .before .before .before .before .before .args in
     let st : State = state (a .card) (a .settings .now) (a .tables .now) in
-    let g = c .before .before .before .before .before .before .before .before .before .n .given in
-    let e : frameOf (a .line .now) ≡ Ticks (g .0 .0) = sym (c .before .before .before .before .before .before .before .before .before .before .before .parse .ensures) ∙ g .1 in
-    rw (step-is st (a .line .now) (Ticks (g .0 .0)) e) (c .before .before .before .before .answer-ticks .ensures)
+    let g = c .before .before .before .before .before .before .before .n .given in
+    let e : frameOf (a .line .now) ≡ Ticks (g .0 .0) = sym (c .before .before .before .before .before .before .before .before .before .parse .ensures) ∙ g .1 in
+    rw (step-is st (a .line .now) (Ticks (g .0 .0)) e) (c .before .before .answer-ticks .ensures)
 
-same-length-9 : tie.Need-same-length-9
-same-length-9 c = search needs
-
-same-length-10 : tie.Need-same-length-10
-same-length-10 c = search needs
-
-same-length-11 : tie.Need-same-length-11
-same-length-11 c = search needs
+same-length-4 : tie.Need-same-length-4
+same-length-4 c = search needs
 
 returns-4 : tie.Need-returns-4
 returns-4 c =
-    let a = c .before .before .before .before .before .before .before .before .before .before .before .before .before .before .before .before .args in
+    let a = c .before .before .before .before .before .before .before .before .before .before .before .before .args in
     let st : State = state (a .card) (a .settings .now) (a .tables .now) in
-    let g = c .before .before .before .before .before .before .before .before .before .e .given in
-    let e : frameOf (a .line .now) ≡ Event (g .0 .0) = sym (c .before .before .before .before .before .before .before .before .before .before .before .parse .ensures) ∙ g .1 in
-    rw (step-is st (a .line .now) (Event (g .0 .0)) e) (c .before .before .before .before .answer-event .ensures)
+    let g = c .before .before .before .before .before .before .before .e .given in
+    let e : frameOf (a .line .now) ≡ Event (g .0 .0) = sym (c .before .before .before .before .before .before .before .before .before .parse .ensures) ∙ g .1 in
+    rw (step-is st (a .line .now) (Event (g .0 .0)) e) (c .before .before .answer-event .ensures)
 
-same-length-12 : tie.Need-same-length-12
-same-length-12 c = search needs
+same-length-5 : tie.Need-same-length-5
+same-length-5 c = search needs
 
 returns-5 : tie.Need-returns-5
 returns-5 c =
-    let a = c .before .before .before .before .before .before .before .before .before .before .before .args in
+    let a = c .before .before .before .before .before .before .before .before .before .args in
     let st : State = state (a .card) (a .settings .now) (a .tables .now) in
     let e : frameOf (a .line .now) ≡ Bad = sym (c .before .before .before .before .before .before .parse .ensures) ∙ c .before .before .before .before .enum-told .given .1 in
     let h = c .before .before .answer-bad .ensures in
@@ -138,19 +117,12 @@ answer-spec =
     enum-told
     answer-bad-requires
     same-length
-    same-length-2
-    same-length-3
     returns
-    same-length-4
-    same-length-5
+    same-length-2
     returns-2
-    same-length-6
-    same-length-7
-    same-length-8
+    same-length-3
     returns-3
-    same-length-9
-    same-length-10
-    same-length-11
+    same-length-4
     returns-4
-    same-length-12
+    same-length-5
     returns-5)

@@ -17,16 +17,12 @@ put-outputs-requires c κs = search needs
 same-length : tie.Need-same-length
 same-length c = search needs
 
-same-length-2 : tie.Need-same-length-2
-same-length-2 c = search needs
-
 returns : tie.Need-returns
 returns c =
-    let a = c .before .before .before .before .before .before .before .before .before .before .before .before .args in
+    let a = c .before .before .before .before .before .before .before .before .args in
     let st : State = state (a .card) (a .settings .now) (a .tables .now) in
-    let r = c .before .before .before .before .before .before .tick .ensures in
+    let r = c .before .before .before .before .tick .ensures in
     ticked-answers (tickWith st (a .e)) 0x84 (a .at) (r .0) (r .1) (sym (tick-settings st (a .e))) (c .before .before .put-outputs .ensures)
 
 pub answer-event-spec : {M : Type 1} → statement M
-answer-event-spec =
-    tie.close (tie.spec tick-requires put-outputs-requires same-length same-length-2 returns)
+answer-event-spec = tie.close (tie.spec tick-requires put-outputs-requires same-length returns)

@@ -27,25 +27,28 @@ add-put-words c = search needs
 slice-aggregate-put-words : tie.Need-slice-aggregate-put-words
 slice-aggregate-put-words c = search needs
 
+cast-put-words : tie.Need-cast-put-words
+cast-put-words c =
+    let a = c .before .before .before .before .before .before .before .before .before .before .before .before .args in
+    let h : c .before .before .before .before .before .before .before .processed .result ≤ 64 = read-few (a .settings .now) (a .card) (a .start) (a .count) (c .before .before .before .before .before .before .before .before .before .before .before .before .pre .1) (c .before .before .before .before .before .before .before .before .before .read .ensures .0) (c .before .before .before .before .before .before .before .processed .ensures) in
+    search (needs, h)
+
 put-words-requires : tie.Need-put-words-requires
-put-words-requires c κs =
-    let a = c .before .before .before .before .before .before .before .before .before .before .before .before .before .args in
-    let h : c .before .before .before .before .before .before .before .processed .result ≤ 64 = read-few (a .settings .now) (a .card) (a .start) (a .count) (c .before .before .before .before .before .before .before .before .before .before .before .before .before .pre .1) (c .before .before .before .before .before .before .before .before .before .read .ensures .0) (c .before .before .before .before .before .before .before .processed .ensures) in
-    (search needs, search needs, h)
+put-words-requires c κs = search needs
 
 add-result : tie.Need-add-result
 add-result c = search needs
 
 mul-result : tie.Need-mul-result
 mul-result c =
-    let a = c .before .before .before .before .before .before .before .before .before .before .before .before .before .before .before .before .args in
-    let h : c .before .before .before .before .before .before .before .before .before .before .processed .result ≤ 64 = read-few (a .settings .now) (a .card) (a .start) (a .count) (c .before .before .before .before .before .before .before .before .before .before .before .before .before .before .before .before .pre .1) (c .before .before .before .before .before .before .before .before .before .before .before .before .read .ensures .0) (c .before .before .before .before .before .before .before .before .before .before .processed .ensures) in
+    let a = c .before .before .before .before .before .before .before .before .before .before .before .before .before .before .before .args in
+    let h : c .before .before .before .before .before .before .before .before .before .before .processed .result ≤ 64 = read-few (a .settings .now) (a .card) (a .start) (a .count) (c .before .before .before .before .before .before .before .before .before .before .before .before .before .before .before .pre .1) (c .before .before .before .before .before .before .before .before .before .before .before .before .read .ensures .0) (c .before .before .before .before .before .before .before .before .before .before .processed .ensures) in
     omega arith
 
 add-result-2 : tie.Need-add-result-2
 add-result-2 c =
-    let a = c .before .before .before .before .before .before .before .before .before .before .before .before .before .before .before .before .args in
-    let h : c .before .before .before .before .before .before .before .before .before .before .processed .result ≤ 64 = read-few (a .settings .now) (a .card) (a .start) (a .count) (c .before .before .before .before .before .before .before .before .before .before .before .before .before .before .before .before .pre .1) (c .before .before .before .before .before .before .before .before .before .before .before .before .read .ensures .0) (c .before .before .before .before .before .before .before .before .before .before .processed .ensures) in
+    let a = c .before .before .before .before .before .before .before .before .before .before .before .before .before .before .before .args in
+    let h : c .before .before .before .before .before .before .before .before .before .before .processed .result ≤ 64 = read-few (a .settings .now) (a .card) (a .start) (a .count) (c .before .before .before .before .before .before .before .before .before .before .before .before .before .before .before .pre .1) (c .before .before .before .before .before .before .before .before .before .before .before .before .read .ensures .0) (c .before .before .before .before .before .before .before .before .before .before .processed .ensures) in
     omega arith
 
 same-length : tie.Need-same-length
@@ -53,8 +56,8 @@ same-length c = search needs
 
 returns : tie.Need-returns
 returns c =
-    let a = c .before .before .before .before .before .before .before .before .before .before .before .before .before .before .before .before .args in
-    read-put (a .settings .now) (a .card) (a .start) (a .count) (c .before .before .before .before .before .before .before .before .before .before .before .before .before .before .before .before .pre .1) (c .before .before .before .before .before .before .before .before .before .before .before .before .read .ensures .0) (c .before .before .before .before .before .before .before .before .before .before .processed .ensures) (a .out .now) (a .at) (c .before .before .before .before .before .before .before .before .before .before .before .before .read .ensures .1) (c .before .before .before .before .before .before .before .before .number .ensures) (c .before .before .before .before .before .before .before .put-head .ensures) (c .before .before .put-words .ensures)
+    let a = c .before .before .before .before .before .before .before .before .before .before .before .before .before .before .before .args in
+    read-put (a .settings .now) (a .card) (a .start) (a .count) (c .before .before .before .before .before .before .before .before .before .before .before .before .before .before .before .pre .1) (c .before .before .before .before .before .before .before .before .before .before .before .before .read .ensures .0) (c .before .before .before .before .before .before .before .before .before .before .processed .ensures) (a .out .now) (a .at) (c .before .before .before .before .before .before .before .before .before .before .before .before .read .ensures .1) (c .before .before .before .before .before .before .before .before .number .ensures) (c .before .before .before .before .before .before .before .put-head .ensures) (c .before .before .put-words .ensures)
 
 pub answer-read-spec : {M : Type 1} → statement M
 answer-read-spec =
@@ -67,6 +70,7 @@ answer-read-spec =
     put-head-requires
     add-put-words
     slice-aggregate-put-words
+    cast-put-words
     put-words-requires
     add-result
     mul-result

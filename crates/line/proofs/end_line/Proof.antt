@@ -11,7 +11,7 @@ least-requires : tie.Need-least-requires
 least-requires c κs = search needs
 
 slice-aggregate-answer : tie.Need-slice-aggregate-answer
-slice-aggregate-answer c = sym (length-take-le _ (c .before .before .before .before .before .before .before .before .args .line .now) (c .before .before .before .least .ensures .2))
+slice-aggregate-answer c = sym (length-take-le _ (c .before .before .before .before .before .before .args .line .now) (c .before .before .before .least .ensures .2))
 
 answer-requires : tie.Need-answer-requires
 answer-requires c κs = search needs
@@ -25,17 +25,11 @@ add-t12 c = search needs
 same-length : tie.Need-same-length
 same-length c = search needs
 
-same-length-2 : tie.Need-same-length-2
-same-length-2 c = search needs
-
-same-length-3 : tie.Need-same-length-3
-same-length-3 c = search needs
-
 returns : tie.Need-returns
 returns c =
-    let a = c .before .before .before .before .before .before .before .before .before .before .before .before .before .before .before .before .before .before .before .before .before .args in
+    let a = c .before .before .before .before .before .before .before .before .before .before .before .before .before .before .before .args in
     let st : State = state (a .card) (a .settings .now) (a .tables .now) in
-    end-feeds st (a .line .now) (a .held) _ (a .at) (c .before .before .before .before .before .before .before .before .before .before .before .before .before .before .before .before .least .ensures .0) (c .before .before .before .before .before .before .before .before .before .before .before .answer .ensures) (c .before .before .before .put .ensures)
+    end-feeds st (a .line .now) (a .held) _ (a .at) (c .before .before .before .before .before .before .before .before .before .before .before .before .least .ensures .0) (c .before .before .before .before .before .before .before .answer .ensures) (c .before .before .before .put .ensures)
 
 pub end-line-spec : {M : Type 1} → statement M
 end-line-spec =
@@ -47,6 +41,4 @@ end-line-spec =
     put-requires
     add-t12
     same-length
-    same-length-2
-    same-length-3
     returns)

@@ -15,7 +15,7 @@ use Rattle.line.proofs.feed.Tie as tie
 
 abbrev Inv-loop : tie.InvT-loop
 Inv-loop settings₀ tables₀ line₀ out₀ held chunk k₀ h₀ end₀ i₀ settings tables line out k h end i =
-    (i ≤ length chunk) × Feeds (feedOf (opened k₀ settings₀ tables₀ line₀ held) (take i chunk)) 0 out₀ out settings tables line k h end × (end ≤ length out₀) × (length out ≡ length out₀) × (takenOf (length out₀) (opened k₀ settings₀ tables₀ line₀ held) chunk ≡ i + takenOf (length out₀) (feedOf (opened k₀ settings₀ tables₀ line₀ held) (take i chunk)) (drop i chunk)) × (length settings ≡ length settings₀) × (length tables ≡ length tables₀) × (length line ≡ length line₀)
+    (i ≤ length chunk) × Feeds (feedOf (opened k₀ settings₀ tables₀ line₀ held) (take i chunk)) 0 out₀ out settings tables line k h end × (end ≤ length out₀) × (length out ≡ length out₀) × (takenOf (length out₀) (opened k₀ settings₀ tables₀ line₀ held) chunk ≡ i + takenOf (length out₀) (feedOf (opened k₀ settings₀ tables₀ line₀ held) (take i chunk)) (drop i chunk))
 
 abbrev μ-loop : tie.MeasureT-loop
 μ-loop settings₀ tables₀ line₀ out₀ held chunk k₀ h₀ end₀ i₀ settings tables line out k h end i = length chunk - i
@@ -25,30 +25,21 @@ least-requires c κs = search needs
 
 loop-holds : tie.Need-loop-holds Inv-loop μ-loop
 unfolding feedOf
-loop-holds c = (search needs, record { same = refl; lined = refl; holds = c .least .ensures .0; atMost = c .least .ensures .2; buffer = refl; ends = refl }, search needs, refl, sym (zero-add _), refl, refl, refl)
+loop-holds c = (search needs, record { same = refl; lined = refl; holds = c .least .ensures .0; atMost = c .least .ensures .2; buffer = refl; ends = refl }, search needs, refl, sym (zero-add _))
 
 add-if1 : tie.Need-add-if1 Inv-loop μ-loop
 add-if1 c = search needs
 
-same-length : tie.Need-same-length Inv-loop μ-loop
-same-length c = search needs
-
-same-length-2 : tie.Need-same-length-2 Inv-loop μ-loop
-same-length-2 c = search needs
-
-same-length-3 : tie.Need-same-length-3 Inv-loop μ-loop
-same-length-3 c = search needs
-
-same-length-4 : tie.Need-same-length-4 Inv-loop μ-loop
-same-length-4 c = search needs
-
 reached-requires : tie.Need-reached-requires Inv-loop μ-loop
 reached-requires c κs = search needs
+
+same-length : tie.Need-same-length Inv-loop μ-loop
+same-length c = search needs
 
 returns : tie.Need-returns Inv-loop μ-loop
 returns c =
     let l = c .before .before .before .loop in
-    let a = c .before .before .before .before .before .before .before .before .before .before .args in
+    let a = c .before .before .before .before .before .before .before .args in
     let t : Flow = opened (a .card) (a .settings .now) (a .tables .now) (a .line .now) (a .held) in
     let u : Flow = feedOf t (take (l .i) (a .chunk .now)) in
     rw (c .reached .ensures)
@@ -62,7 +53,7 @@ add-i c = search needs
 
 end-line-requires : tie.Need-end-line-requires Inv-loop μ-loop
 end-line-requires c κs =
-    let l = c .before .before .before .before .before .before .before .before .loop in
+    let l = c .before .before .before .before .before .before .before .before .before .loop in
     omega (arith, l .inv .2)
 
 loop-less : tie.Need-loop-less Inv-loop μ-loop
@@ -70,13 +61,13 @@ loop-less c = search needs
 
 loop-again : tie.Need-loop-again Inv-loop μ-loop
 loop-again c =
-    let l = c .before .before .before .before .before .before .before .before .before .before .before .before .before .before .before .before .loop in
-    let a = c .before .before .before .before .before .before .before .before .before .before .before .before .before .before .before .before .before .before .before .before .before .before .before .args in
+    let l = c .before .before .before .before .before .before .before .before .before .before .before .before .before .loop in
+    let a = c .before .before .before .before .before .before .before .before .before .before .before .before .before .before .before .before .before .args in
     let t : Flow = opened (a .card) (a .settings .now) (a .tables .now) (a .line .now) (a .held) in
     let b : ℕ = getD (a .chunk .now) (l .i) 0 in
     let u : Flow = feedOf t (take (l .i) (a .chunk .now)) in
-    let e = c .before .before .before .before .before .before .before .end-line .ensures in
-    (search needs, rw (feed-more t (a .chunk .now) (l .i) (c .before .before .before .before .before .before .before .before .before .before .before .before .before .before .before .loop-test .taken)) (feeds-more u b (l .inv .1) (rw (byte-ends (flow (state (l .k) (l .settings) (l .tables)) (l .line) (l .h) []) b (c .before .before .before .before .before .before .before .before .before .before .before .before .if2 .taken)) (e .0))), omega (arith, e .1, c .before .before .before .before .before .before .before .before .before .before .before .before .before .before .if1 .left, l .inv .3), c .before .before .before .before .before .before .before .end-line .kept .1 .1 .1 .0 ∙ l .inv .3, taken-turn (length (a .out .now)) t (a .chunk .now) (l .i) (c .before .before .before .before .before .before .before .before .before .before .before .before .before .before .before .loop-test .taken) (omega (arith, l .inv .1 .ends, l .inv .3, c .before .before .before .before .before .before .before .before .before .before .before .before .before .before .if1 .left)) (l .inv .4), c .before .before .before .before .before .before .before .end-line .kept .0 ∙ l .inv .5, c .before .before .before .before .before .before .before .end-line .kept .1 .0 ∙ l .inv .6, l .inv .7)
+    let e = c .before .before .before .end-line .ensures in
+    (search needs, rw (feed-more t (a .chunk .now) (l .i) (c .before .before .before .before .before .before .before .before .before .before .before .before .loop-test .taken)) (feeds-more u b (l .inv .1) (rw (byte-ends (flow (state (l .k) (l .settings) (l .tables)) (l .line) (l .h) []) b (c .before .before .before .before .before .before .before .before .before .if2 .taken)) (e .0))), omega (arith, e .1, c .before .before .before .before .before .before .before .before .before .before .before .if1 .left, l .inv .3), c .before .before .before .end-line .kept .1 .1 .1 .0 ∙ l .inv .3, taken-turn (length (a .out .now)) t (a .chunk .now) (l .i) (c .before .before .before .before .before .before .before .before .before .before .before .before .loop-test .taken) (omega (arith, l .inv .1 .ends, l .inv .3, c .before .before .before .before .before .before .before .before .before .before .before .if1 .left)) (l .inv .4))
 
 keep-requires : tie.Need-keep-requires Inv-loop μ-loop
 keep-requires c κs =
@@ -88,32 +79,23 @@ loop-less-2 c = search needs
 
 loop-again-2 : tie.Need-loop-again-2 Inv-loop μ-loop
 loop-again-2 c =
-    let l = c .before .before .before .before .before .before .before .before .loop in
-    let a = c .before .before .before .before .before .before .before .before .before .before .before .before .before .before .before .args in
+    let l = c .before .before .before .before .before .before .loop in
+    let a = c .before .before .before .before .before .before .before .before .before .before .args in
     let t : Flow = opened (a .card) (a .settings .now) (a .tables .now) (a .line .now) (a .held) in
     let b : ℕ = getD (a .chunk .now) (l .i) 0 in
     let u : Flow = feedOf t (take (l .i) (a .chunk .now)) in
-    (search needs, rw (feed-more t (a .chunk .now) (l .i) (c .before .before .before .before .before .before .before .loop-test .taken)) (feeds-more u b (l .inv .1) (keeps-feeds (l .settings) (l .tables) (l .line) _ (l .out) b _ (l .end) (l .k) (l .h) (c .before .before .before .before .if2 .left) (c .before .before .keep .ensures))), l .inv .2, l .inv .3, taken-turn (length (a .out .now)) t (a .chunk .now) (l .i) (c .before .before .before .before .before .before .before .loop-test .taken) (omega (arith, l .inv .1 .ends, l .inv .3, c .before .before .before .before .before .before .if1 .left)) (l .inv .4), l .inv .5, l .inv .6, c .before .before .keep .kept .0 ∙ l .inv .7)
-
-same-length-5 : tie.Need-same-length-5 Inv-loop μ-loop
-same-length-5 c = search needs
-
-same-length-6 : tie.Need-same-length-6 Inv-loop μ-loop
-same-length-6 c = search needs
-
-same-length-7 : tie.Need-same-length-7 Inv-loop μ-loop
-same-length-7 c = search needs
-
-same-length-8 : tie.Need-same-length-8 Inv-loop μ-loop
-same-length-8 c = search needs
+    (search needs, rw (feed-more t (a .chunk .now) (l .i) (c .before .before .before .before .before .loop-test .taken)) (feeds-more u b (l .inv .1) (keeps-feeds (l .settings) (l .tables) (l .line) _ (l .out) b _ (l .end) (l .k) (l .h) (c .before .before .if2 .left) (c .keep .ensures))), l .inv .2, l .inv .3, taken-turn (length (a .out .now)) t (a .chunk .now) (l .i) (c .before .before .before .before .before .loop-test .taken) (omega (arith, l .inv .1 .ends, l .inv .3, c .before .before .before .before .if1 .left)) (l .inv .4))
 
 reached-requires-2 : tie.Need-reached-requires-2 Inv-loop μ-loop
 reached-requires-2 c κs = search needs
 
+same-length-2 : tie.Need-same-length-2 Inv-loop μ-loop
+same-length-2 c = search needs
+
 returns-2 : tie.Need-returns-2 Inv-loop μ-loop
 returns-2 c =
     let l = c .before .before .loop in
-    let a = c .before .before .before .before .before .before .before .before .before .args in
+    let a = c .before .before .before .before .before .before .args in
     let t : Flow = opened (a .card) (a .settings .now) (a .tables .now) (a .line .now) (a .held) in
     let u : Flow = feedOf t (take (l .i) (a .chunk .now)) in
     rw (c .reached2 .ensures)
@@ -130,9 +112,6 @@ feed-spec =
     add-if1
     reached-requires
     same-length
-    same-length-2
-    same-length-3
-    same-length-4
     returns
     shared-slice-read-b
     add-i
@@ -143,8 +122,5 @@ feed-spec =
     loop-less-2
     loop-again-2
     reached-requires-2
-    same-length-5
-    same-length-6
-    same-length-7
-    same-length-8
+    same-length-2
     returns-2)

@@ -16,7 +16,7 @@ reached-requires c κs = search needs
 
 returns : tie.Need-returns
 returns c =
-    let a = c .before .before .before .before .before .before .before .args in
+    let a = c .before .before .before .before .args in
     let t : Flow = opened (a .card) (a .settings .now) (a .tables .now) (a .line .now) (a .held) in
     rw (c .reached .ensures)
     (record { took = refl; feeds = rw (← finish-none (length (a .out .now)) t (sym (c .before .before .least .ensures .0) ∙ c .before .if1 .taken)) (unfed (a .card) (a .settings .now) (a .tables .now) (a .line .now) (a .out .now) (a .held) refl refl refl (c .before .before .least .ensures .0)); fits = omega arith })
@@ -26,7 +26,7 @@ reached-requires-2 c κs = search needs
 
 returns-2 : tie.Need-returns-2
 returns-2 c =
-    let a = c .before .before .before .before .before .before .before .before .args in
+    let a = c .before .before .before .before .before .args in
     let t : Flow = opened (a .card) (a .settings .now) (a .tables .now) (a .line .now) (a .held) in
     rw (c .reached2 .ensures)
     (record { took = refl; feeds = rw (← finish-narrow (length (a .out .now)) t (λ e. c .before .before .if1 .left (c .before .before .before .least .ensures .0 ∙ e)) (c .before .if2 .taken)) (unfed (a .card) (a .settings .now) (a .tables .now) (a .line .now) (a .out .now) (a .held) refl refl refl (c .before .before .before .least .ensures .0)); fits = omega arith })
@@ -40,20 +40,14 @@ reached-requires-3 c κs = search needs
 same-length : tie.Need-same-length
 same-length c = search needs
 
-same-length-2 : tie.Need-same-length-2
-same-length-2 c = search needs
-
-same-length-3 : tie.Need-same-length-3
-same-length-3 c = search needs
-
 returns-3 : tie.Need-returns-3
 returns-3 c =
-    let a = c .before .before .before .before .before .before .before .before .before .before .before .before .before .before .before .before .before .before .args in
+    let a = c .before .before .before .before .before .before .before .before .before .before .before .before .args in
     let t : Flow = opened (a .card) (a .settings .now) (a .tables .now) (a .line .now) (a .held) in
-    let e = c .before .before .before .before .before .before .before .end-line .ensures in
-    let h = c .before .before .before .before .before .before .before .before .before .before .before .before .before .least .ensures .0 in
+    let e = c .before .before .before .end-line .ensures in
+    let h = c .before .before .before .before .before .before .before .before .before .before .least .ensures .0 in
     rw (c .reached3 .ensures)
-    (record { took = refl; feeds = rw (← finish-ends (length (a .out .now)) t (λ z. c .before .before .before .before .before .before .before .before .before .before .before .before .if1 .left (h ∙ z)) (c .before .before .before .before .before .before .before .before .before .before .before .if2 .left)) (rw h at (e .0)); fits = omega (arith, e .1, c .before .before .before .before .before .before .before .before .before .before .before .if2 .left) })
+    (record { took = refl; feeds = rw (← finish-ends (length (a .out .now)) t (λ z. c .before .before .before .before .before .before .before .before .before .if1 .left (h ∙ z)) (c .before .before .before .before .before .before .before .before .if2 .left)) (rw h at (e .0)); fits = omega (arith, e .1, c .before .before .before .before .before .before .before .before .if2 .left) })
 
 pub finish-spec : {M : Type 1} → statement M
 finish-spec =
@@ -67,6 +61,4 @@ finish-spec =
     end-line-requires
     reached-requires-3
     same-length
-    same-length-2
-    same-length-3
     returns-3)

@@ -2,7 +2,8 @@
 use borrow.Author.Needs.{needs}
 use Prim.Native.Nat.{_≤_, _<_}
 use borrow.Author.Tests.{eq-eqb, ne-eqb, le-leb, lt-leb}
-use Rattle.line.specs.Frame.{wordAt, readFrame}
+use Rattle.digits.specs.Digits.{wordAt}
+use Rattle.line.specs.Frame.{readFrame}
 use Rattle.line.proofs.read_frame.Statement.{statement}
 use Rattle.line.proofs.read_frame.Tie as tie
 
@@ -30,4 +31,10 @@ returns-3 c = let s = c .before .before .before .before .before .before .args .s
 pub read-frame-spec : {M : Type 1} → statement M
 read-frame-spec =
     tie.close
-    (tie.spec returns word-at-requires returns-2 word-at-requires-2 wide-requires returns-3)
+    (tie.spec
+    returns
+    word-at-requires
+    returns-2
+    word-at-requires-2
+    wide-requires
+    returns-3)

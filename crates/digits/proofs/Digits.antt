@@ -1,15 +1,15 @@
 -- Digits read and written, and runs of stores. Assumes nothing.
 use mathlib.Core.Path.{_≡_, _∙_, ap, sym, refl}
-use mathlib.Core.Bool.{true, false, _&&_}
+use mathlib.Core.Bool.{Bool, true, false, _&&_}
 use mathlib.Core.List.{List, [], _∷_, _++_, append-nil, append-assoc}
-use Prim.Native.Nat.{ℕ, zero, suc, _+_, _*_, _≤_, _<_}
+use Prim.Native.Nat.{ℕ, zero, suc, _+_, _*_, _≤_, _<_, min}
 use native.Mathlib.Numerals.{add-one}
 use native.Mathlib.Omega.{arith}
-use borrow.Author.Tests.{le-leb, lt-leb}
-use lib.ListN.{length, set, getD, take, drop, length-append}
-use lib.Seq.{sets, sets-eq, drop-cons, take-suc, take-at, length-take-le}
-use Rattle.line.specs.Frame.{inside, isDigit, allDigits, wordAt, wordsOf}
-use Rattle.line.specs.Answer.{hex2, hex4, hexAll, headOf}
+use borrow.Author.Tests.{ltb-true, ltb-false, le-leb, lt-leb}
+use lib.Dec.{ltb}
+use lib.ListN.{length, set, getD, take, drop, length-append, length-set, List·getD-eq-default}
+use lib.Seq.{set-out, sets, sets-eq, drop-cons, take-suc, take-all, take-at, length-take-le}
+use Rattle.digits.specs.Digits.{inside, isDigit, valueOf, allDigits, byteAt, wordAt, wordsFrom, hex2, hex4, hex8, hexAll}
 
 -- ---- a byte among the digits
 
@@ -43,20 +43,48 @@ take-sets d a n e h =
     let b : 0 + length a ≤ length d = omega arith in
     ap (take n) (sets-eq a d 0 b) ∙ take-at a (drop (0 + length a) d) n e
 
--- ---- the words of a write
+-- past the end nothing is stored, and zeros are read
+pub sets-past : (l : List ℕ) (i : ℕ) (a : List ℕ) → length l ≤ i → l ≡ sets l i a
+sets-past l i [] h = refl
+sets-past l i (x ∷ a) h = sym (set-out l i x h) ∙ sets-past (set l i x) (suc i) a (omega (arith, length-set l i x))
 
-pub length-wordsOf : (n : ℕ) (s : List ℕ) → length (wordsOf n s) ≡ n
-unfolding wordsOf
-length-wordsOf zero s = refl
-length-wordsOf (suc n) s = length-append (wordsOf n s) _ ∙ omega (arith, length-wordsOf n s)
+pub byte-past : (s : List ℕ) (i : ℕ) → length s ≤ i → 0 ≡ byteAt s i
+unfolding byteAt
+byte-past s i h =
+    let a : getD s i 0 ≡ 0 = List·getD-eq-default s 0 {n = i} h in
+    let b : getD s (i + 1) 0 ≡ 0 = List·getD-eq-default s 0 {n = i + 1} (omega arith) in
+    rw (a, b)
+
+pub word-past : (s : List ℕ) (i : ℕ) → length s ≤ i → 0 ≡ wordAt s i
+unfolding wordAt
+word-past s i h = rw (← byte-past s i h, ← byte-past s (i + 2) (omega arith))
+
+-- beyond the end there is nothing to take
+pub take-min : (n : ℕ) (l : List ℕ) → take (min n (length l)) l ≡ take n l
+take-min n l = go _ refl
+  where
+    go : (q : Bool) → ltb n (length l) ≡ q → take (min n (length l)) l ≡ take n l
+    go true e = let h : n < length l = ltb-true _ _ e in let m : min n (length l) ≡ n = omega arith in ap (λ (k : ℕ). take k l) m
+    go false e =
+        let h : length l ≤ n = ltb-false _ _ e in
+        let m : min n (length l) ≡ length l = omega arith in
+        let z : length l ≤ length l = omega arith in
+        ap (λ (k : ℕ). take k l) m ∙ take-all (length l) l z ∙ sym (take-all n l h)
+
+-- ---- words read
+
+pub length-words : (at n : ℕ) (s : List ℕ) → length (wordsFrom at n s) ≡ n
+unfolding wordsFrom
+length-words at zero s = refl
+length-words at (suc n) s = length-append (wordsFrom at n s) _ ∙ omega (arith, length-words at n s)
 
 -- a turn of the loop that reads them
-pub words-more : (d s : List ℕ) (i : ℕ) → set (sets d 0 (wordsOf i s)) i (wordAt s (6 + 4 * i)) ≡ sets d 0 (wordsOf (i + 1) s)
-unfolding wordsOf
-words-more d s i =
-    ap (λ (k : ℕ). set (sets d 0 (wordsOf i s)) k (wordAt s (6 + 4 * i))) (omega (arith, length-wordsOf i s))
-    ∙ sym (sets-append d 0 (wordsOf i s) (wordAt s (6 + 4 * i) ∷ []))
-    ∙ ap (λ (k : ℕ). sets d 0 (wordsOf k s)) (sym (add-one i))
+pub words-more : (d s : List ℕ) (at i : ℕ) → set (sets d 0 (wordsFrom at i s)) i (wordAt s (at + 4 * i)) ≡ sets d 0 (wordsFrom at (i + 1) s)
+unfolding wordsFrom
+words-more d s at i =
+    ap (λ (k : ℕ). set (sets d 0 (wordsFrom at i s)) k (wordAt s (at + 4 * i))) (omega (arith, length-words at i s))
+    ∙ sym (sets-append d 0 (wordsFrom at i s) (wordAt s (at + 4 * i) ∷ []))
+    ∙ ap (λ (k : ℕ). sets d 0 (wordsFrom at k s)) (sym (add-one i))
 
 -- ---- digits written
 
@@ -68,17 +96,14 @@ pub length-hex4 : (x : ℕ) → length (hex4 x) ≡ 4
 unfolding hex2 hex4
 length-hex4 x = refl
 
-pub length-headOf : (a b c : ℕ) → length (headOf a b c) ≡ 8
-unfolding headOf hex2 hex4
-length-headOf a b c = refl
+pub length-hex8 : (x : ℕ) → length (hex8 x) ≡ 8
+unfolding hex2 hex4 hex8
+length-hex8 x = refl
 
 pub length-hexAll : (a : List ℕ) → length (hexAll a) ≡ 4 * length a
 unfolding hexAll
 length-hexAll [] = refl
 length-hexAll (w ∷ a) = length-append (hex4 w) (hexAll a) ∙ omega (arith, length-hex4 w, length-hexAll a)
-
-pub length-read : (a b c : ℕ) (ws : List ℕ) → length (headOf a b c ++ hexAll ws) ≡ 8 + 4 * length ws
-length-read a b c ws = length-append (headOf a b c) (hexAll ws) ∙ omega (arith, length-headOf a b c, length-hexAll ws)
 
 hexAll-append : (a b : List ℕ) → hexAll (a ++ b) ≡ hexAll a ++ hexAll b
 unfolding hexAll

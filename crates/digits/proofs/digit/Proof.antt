@@ -1,8 +1,8 @@
--- `line::digit` meets its contract. Assumes nothing.
+-- `digits::digit` meets its contract. Assumes nothing.
 use borrow.Author.Needs.{needs}
 use borrow.Author.Tests.{lt-ltb, le-ltb}
-use Rattle.line.proofs.digit.Statement.{statement}
-use Rattle.line.proofs.digit.Tie as tie
+use Rattle.digits.proofs.digit.Statement.{statement}
+use Rattle.digits.proofs.digit.Tie as tie
 
 add-result : tie.Need-add-result
 add-result c = search needs

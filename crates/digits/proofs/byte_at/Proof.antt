@@ -1,9 +1,13 @@
--- `line::byte_at` meets its contract. Assumes nothing.
+-- `digits::byte_at` meets its contract. Assumes nothing.
 use borrow.Author.Needs.{needs}
 use native.Mathlib.Omega.{arith}
-use Rattle.line.specs.Frame.{byteAt}
-use Rattle.line.proofs.byte_at.Statement.{statement}
-use Rattle.line.proofs.byte_at.Tie as tie
+use Rattle.digits.specs.Digits.{byteAt}
+use Rattle.digits.proofs.Digits.{byte-past}
+use Rattle.digits.proofs.byte_at.Statement.{statement}
+use Rattle.digits.proofs.byte_at.Tie as tie
+
+returns : tie.Need-returns
+returns c = (byte-past (c .before .before .args .s .now) _ (c .if1 .taken), search needs)
 
 get-requires : tie.Need-get-requires
 get-requires c κs = search needs
@@ -26,14 +30,15 @@ value-requires-2 c κs = search needs
 add-result : tie.Need-add-result
 add-result c = search needs
 
-returns : tie.Need-returns
+returns-2 : tie.Need-returns-2
 unfolding byteAt
-returns c = (rw (c .before .before .value .ensures .0, c .value2 .ensures .0, c .before .before .before .get .ensures, c .before .get2 .ensures), omega arith)
+returns-2 c = (rw (c .before .before .value .ensures .0, c .value2 .ensures .0, c .before .before .before .get .ensures, c .before .get2 .ensures), omega arith)
 
 pub byte-at-spec : {M : Type 1} → statement M
 byte-at-spec =
     tie.close
     (tie.spec
+    returns
     get-requires
     value-requires
     mul-result
@@ -41,4 +46,4 @@ byte-at-spec =
     get-requires-2
     value-requires-2
     add-result
-    returns)
+    returns-2)

@@ -1,14 +1,14 @@
--- `line::all_digits` meets its contract. The loop's invariant: the bytes from i on are all digits where the whole line's are.
+-- `digits::all_digits` meets its contract. The loop's invariant: the bytes from i on are all digits where the whole line's are.
 -- The measure is what is left of the line. Assumes nothing.
 use borrow.Author.Needs.{needs}
 use mathlib.Core.Path.{_≡_, sym, ap, _∙_}
 use Prim.Native.Nat.{_≤_, _-_}
 use lib.ListN.{length, drop, drop-of-length-le}
 use borrow.Author.Tests.{not-true, not-false}
-use Rattle.line.specs.Frame.{allDigits}
-use Rattle.line.proofs.Digits.{digits-at}
-use Rattle.line.proofs.all_digits.Statement.{statement}
-use Rattle.line.proofs.all_digits.Tie as tie
+use Rattle.digits.specs.Digits.{allDigits}
+use Rattle.digits.proofs.Digits.{digits-at}
+use Rattle.digits.proofs.all_digits.Statement.{statement}
+use Rattle.digits.proofs.all_digits.Tie as tie
 
 abbrev Inv-loop : tie.InvT-loop
 Inv-loop s i₀ i = (i ≤ length s) × (allDigits s ≡ allDigits (drop i s))

@@ -1,10 +1,10 @@
--- `line::value` meets its contract. Assumes nothing.
+-- `digits::value` meets its contract. Assumes nothing.
 use borrow.Author.Needs.{needs}
 use mathlib.Core.Path.{refl}
 use native.Mathlib.Omega.{arith}
-use Rattle.line.proofs.Digits.{in-range, under, over}
-use Rattle.line.proofs.value.Statement.{statement}
-use Rattle.line.proofs.value.Tie as tie
+use Rattle.digits.proofs.Digits.{in-range, under, over}
+use Rattle.digits.proofs.value.Statement.{statement}
+use Rattle.digits.proofs.value.Tie as tie
 
 sub-result : tie.Need-sub-result
 sub-result c = search needs

@@ -1,9 +1,9 @@
--- `line::put` meets its contract. Assumes nothing.
+-- `digits::put` meets its contract. Assumes nothing.
 use borrow.Author.Needs.{needs}
 use mathlib.Core.Path.{sym}
 use lib.Seq.{set-out}
-use Rattle.line.proofs.put.Statement.{statement}
-use Rattle.line.proofs.put.Tie as tie
+use Rattle.digits.proofs.put.Statement.{statement}
+use Rattle.digits.proofs.put.Tie as tie
 
 slice-write-out : tie.Need-slice-write-out
 slice-write-out c = search needs

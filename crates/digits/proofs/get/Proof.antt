@@ -1,9 +1,9 @@
--- `line::get` meets its contract. Assumes nothing.
+-- `digits::get` meets its contract. Assumes nothing.
 use borrow.Author.Needs.{needs}
 use mathlib.Core.Path.{sym}
 use lib.ListN.{List·getD-eq-default}
-use Rattle.line.proofs.get.Statement.{statement}
-use Rattle.line.proofs.get.Tie as tie
+use Rattle.digits.proofs.get.Statement.{statement}
+use Rattle.digits.proofs.get.Tie as tie
 
 shared-slice-read-result : tie.Need-shared-slice-read-result
 shared-slice-read-result c = search needs

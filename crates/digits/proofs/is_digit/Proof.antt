@@ -1,8 +1,8 @@
--- `line::is_digit` meets its contract. Assumes nothing.
+-- `digits::is_digit` meets its contract. Assumes nothing.
 use native.Mathlib.Omega.{arith}
-use Rattle.line.proofs.Digits.{in-range, under, over}
-use Rattle.line.proofs.is_digit.Statement.{statement}
-use Rattle.line.proofs.is_digit.Tie as tie
+use Rattle.digits.proofs.Digits.{in-range, under, over}
+use Rattle.digits.proofs.is_digit.Statement.{statement}
+use Rattle.digits.proofs.is_digit.Tie as tie
 
 returns : tie.Need-returns
 returns c = let b = c .before .before .args .b in rw (in-range 48 57 b (c .before .if1 .left) (omega arith))
