@@ -55,7 +55,7 @@ pub fn factor(word: u16) -> f64
 
 // A point of a table of a channel, where the lent words have the word of address a at place a.
 // Nothing where the channel, the table or the point is not there, or the ramp ends before it.
-pub fn plot_point(words: &[u16], channel: usize, table: usize, point: usize) -> Plot
+pub fn plot_point(words: &[u16; 16960], channel: usize, table: usize, point: usize) -> Plot
     ensures { λ r. ⌜ (r ≡ plotOf (lent words) channel table point) × PlotExact (lent words) channel table point r ⌝ }
 {
     if 4 <= channel {

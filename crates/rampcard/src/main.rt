@@ -51,9 +51,9 @@ fn serve(
 
 // Waits for input once, and writes the answers of all lines that it ends.
 fn take_turn(
-    settings: &mut [u16],
-    tables: &mut [u16],
-    line: &mut [u8],
+    settings: &mut [u16; 16960],
+    tables: &mut [u16; 512],
+    line: &mut [u8; 263],
     chunk: &mut [u8],
     out: &mut [u8],
     card: Card,
@@ -81,9 +81,9 @@ fn take_turn(
 
 // The end of the input: the last line may lack its LF.
 fn end_input(
-    settings: &mut [u16],
-    tables: &mut [u16],
-    line: &[u8],
+    settings: &mut [u16; 16960],
+    tables: &mut [u16; 512],
+    line: &[u8; 263],
     out: &mut [u8],
     card: Card,
     held: usize,
@@ -94,9 +94,9 @@ fn end_input(
 
 // One chunk, fed again until all of it is taken; each time the answers are written.
 fn serve_chunk(
-    settings: &mut [u16],
-    tables: &mut [u16],
-    line: &mut [u8],
+    settings: &mut [u16; 16960],
+    tables: &mut [u16; 512],
+    line: &mut [u8; 263],
     out: &mut [u8],
     card: Card,
     held: usize,

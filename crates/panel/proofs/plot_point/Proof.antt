@@ -33,7 +33,7 @@ plot-from-requires c κs = search needs
 
 returns-4 : tie.Need-returns-4
 unfolding plotOf
-returns-4 c = rw (lt-ltb _ _ (c .before .before .before .if1 .left), lt-ltb _ _ (c .before .before .if2 .left), lt-ltb _ _ (c .before .if3 .left)) (c .plot-from .ensures)
+returns-4 c = rw (lt-ltb _ _ (c .before .before .before .before .if1 .left), lt-ltb _ _ (c .before .before .before .if2 .left), lt-ltb _ _ (c .before .before .if3 .left)) (c .plot-from .ensures)
 
 pub plot-point-spec : {M : Type 1} → statement M
 plot-point-spec =

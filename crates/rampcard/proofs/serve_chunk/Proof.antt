@@ -12,15 +12,15 @@ use Rattle.rampcard.proofs.serve_chunk.Statement.{statement}
 use Rattle.rampcard.proofs.serve_chunk.Tie as tie
 
 abbrev Inv-loop : tie.InvT-loop
-Inv-loop settings₀ tables₀ line₀ out₀ held chunk k₀ h₀ i₀ settings tables line out k h i = Taken (opened k₀ settings₀ tables₀ line₀ held) chunk settings tables line k h i × (length settings ≡ length settings₀) × (length tables ≡ length tables₀) × (length line ≡ length line₀) × (length out ≡ length out₀)
+Inv-loop settings₀ tables₀ line₀ out₀ held chunk k₀ h₀ i₀ settings tables line out k h i = Taken (opened k₀ settings₀ tables₀ line₀ held) chunk settings tables line k h i × (length out ≡ length out₀)
 
 abbrev μ-loop : tie.MeasureT-loop
 μ-loop settings₀ tables₀ line₀ out₀ held chunk k₀ h₀ i₀ settings tables line out k h i = length chunk - i
 
 loop-holds : tie.Need-loop-holds Inv-loop μ-loop
 loop-holds c =
-    let a = c .before .before .before .before .before .args in
-    (none-taken (a .card) (a .settings .now) (a .tables .now) (a .line .now) (a .held) (a .chunk .now), refl, refl, refl, refl)
+    let a = c .before .before .args in
+    (none-taken (a .card) (a .settings .now) (a .tables .now) (a .line .now) (a .held) (a .chunk .now), refl)
 
 sub-feed : tie.Need-sub-feed Inv-loop μ-loop
 sub-feed c = search needs
@@ -36,58 +36,40 @@ feed-requires c κs = search needs
 
 add-i : tie.Need-add-i Inv-loop μ-loop
 add-i c =
-    let a = c .before .before .before .before .before .before .before .before .before .before .before .before .before .before .before .before .before .before .before .before .before .before .args in
-    let l = c .before .before .before .before .before .before .before .before .before .before .before .before .before .before .before .before .loop in
-    omega (arith, turn-most (opened (a .card) (a .settings .now) (a .tables .now) (a .line .now) (a .held)) (a .chunk .now) (l .i) (rest (a .chunk .now) (l .i)) (l .inv .0) (c .before .before .before .before .before .before .before .before .before .feed .ensures), c .before .before .before .before .before .before .before .before .before .before .before .before .before .before .before .before .before .before .before .before .before .before .good .1 .1 .1 .1 .1 .1)
+    let a = c .before .before .before .before .before .before .before .before .before .before .before .before .before .args in
+    let l = c .before .before .before .before .before .before .before .before .before .before .loop in
+    omega (arith, turn-most (opened (a .card) (a .settings .now) (a .tables .now) (a .line .now) (a .held)) (a .chunk .now) (l .i) (rest (a .chunk .now) (l .i)) (l .inv .0) (c .before .before .before .feed .ensures), c .before .before .before .before .before .before .before .before .before .before .before .before .before .good .1 .1 .1 .1 .1 .1)
 
 write-answers-requires : tie.Need-write-answers-requires Inv-loop μ-loop
 write-answers-requires c κs =
-    let l = c .before .before .before .before .before .before .before .before .before .before .before .before .before .before .before .before .before .before .loop in
-    omega (arith, c .before .before .before .before .before .before .before .before .before .before .before .feed .ensures .fits, c .before .before .before .before .before .before .before .before .before .before .before .feed .kept .1 .1 .1 .0)
+    let l = c .before .before .before .before .before .before .before .before .before .before .before .before .loop in
+    omega (arith, c .before .before .before .before .before .feed .ensures .fits, c .before .before .before .before .before .feed .kept .1 .1 .1 .0)
 
 same-length : tie.Need-same-length Inv-loop μ-loop
 same-length c = search needs
 
-same-length-2 : tie.Need-same-length-2 Inv-loop μ-loop
-same-length-2 c = search needs
-
-same-length-3 : tie.Need-same-length-3 Inv-loop μ-loop
-same-length-3 c = search needs
-
-same-length-4 : tie.Need-same-length-4 Inv-loop μ-loop
-same-length-4 c = search needs
-
 returns : tie.Need-returns Inv-loop μ-loop
 returns c =
-    let a = c .before .before .before .before .before .before .before .before .before .before .before .before .before .before .before .before .before .before .before .before .before .before .before .before .before .before .args in
-    let l = c .before .before .before .before .before .before .before .before .before .before .before .before .before .before .before .before .before .before .before .before .loop in
-    record { takes = turn-taken (opened (a .card) (a .settings .now) (a .tables .now) (a .line .now) (a .held)) (a .chunk .now) (l .i) (rest (a .chunk .now) (l .i)) (l .inv .0) (c .before .before .before .before .before .before .before .before .before .before .before .before .before .feed .ensures); whole = omega arith }
+    let a = c .before .before .before .before .before .before .before .before .before .before .before .before .before .before .before .before .before .args in
+    let l = c .before .before .before .before .before .before .before .before .before .before .before .before .before .before .loop in
+    record { takes = turn-taken (opened (a .card) (a .settings .now) (a .tables .now) (a .line .now) (a .held)) (a .chunk .now) (l .i) (rest (a .chunk .now) (l .i)) (l .inv .0) (c .before .before .before .before .before .before .before .feed .ensures); whole = omega arith }
 
 loop-less : tie.Need-loop-less Inv-loop μ-loop
 loop-less c =
-    let a = c .before .before .before .before .before .before .before .before .before .before .before .before .before .before .before .before .before .before .before .before .before .before .before .before .before .before .args in
-    let l = c .before .before .before .before .before .before .before .before .before .before .before .before .before .before .before .before .before .before .before .before .loop in
-    let m = turn-most (opened (a .card) (a .settings .now) (a .tables .now) (a .line .now) (a .held)) (a .chunk .now) (l .i) (rest (a .chunk .now) (l .i)) (l .inv .0) (c .before .before .before .before .before .before .before .before .before .before .before .before .before .feed .ensures) in
-    let n = turn-some (opened (a .card) (a .settings .now) (a .tables .now) (a .line .now) (a .held)) (a .chunk .now) (l .i) (rest (a .chunk .now) (l .i)) (l .inv .0) (c .before .before .before .before .before .before .before .before .before .before .before .before .before .feed .ensures) (c .before .before .before .before .before .before .before .before .before .before .before .before .before .before .before .before .before .before .before .loop-test .taken) (omega (arith, l .inv .4, c .before .before .before .before .before .before .before .before .before .before .before .before .before .before .before .before .before .before .before .before .before .before .before .before .before .before .pre)) in
+    let a = c .before .before .before .before .before .before .before .before .before .before .before .before .before .before .before .before .before .args in
+    let l = c .before .before .before .before .before .before .before .before .before .before .before .before .before .before .loop in
+    let m = turn-most (opened (a .card) (a .settings .now) (a .tables .now) (a .line .now) (a .held)) (a .chunk .now) (l .i) (rest (a .chunk .now) (l .i)) (l .inv .0) (c .before .before .before .before .before .before .before .feed .ensures) in
+    let n = turn-some (opened (a .card) (a .settings .now) (a .tables .now) (a .line .now) (a .held)) (a .chunk .now) (l .i) (rest (a .chunk .now) (l .i)) (l .inv .0) (c .before .before .before .before .before .before .before .feed .ensures) (c .before .before .before .before .before .before .before .before .before .before .before .before .before .loop-test .taken) (omega (arith, l .inv .1, c .before .before .before .before .before .before .before .before .before .before .before .before .before .before .before .before .before .pre)) in
     omega arith
 
 loop-again : tie.Need-loop-again Inv-loop μ-loop
 loop-again c =
-    let a = c .before .before .before .before .before .before .before .before .before .before .before .before .before .before .before .before .before .before .before .before .before .before .before .before .before .before .args in
-    let l = c .before .before .before .before .before .before .before .before .before .before .before .before .before .before .before .before .before .before .before .before .loop in
-    (turn-taken (opened (a .card) (a .settings .now) (a .tables .now) (a .line .now) (a .held)) (a .chunk .now) (l .i) (rest (a .chunk .now) (l .i)) (l .inv .0) (c .before .before .before .before .before .before .before .before .before .before .before .before .before .feed .ensures), c .before .before .before .before .before .before .before .before .before .before .before .before .before .feed .kept .0 ∙ l .inv .1, c .before .before .before .before .before .before .before .before .before .before .before .before .before .feed .kept .1 .0 ∙ l .inv .2, c .before .before .before .before .before .before .before .before .before .before .before .before .before .feed .kept .1 .1 .0 ∙ l .inv .3, c .before .before .before .before .before .before .before .before .before .before .before .before .before .feed .kept .1 .1 .1 .0 ∙ l .inv .4)
+    let a = c .before .before .before .before .before .before .before .before .before .before .before .before .before .before .before .before .before .args in
+    let l = c .before .before .before .before .before .before .before .before .before .before .before .before .before .before .loop in
+    (turn-taken (opened (a .card) (a .settings .now) (a .tables .now) (a .line .now) (a .held)) (a .chunk .now) (l .i) (rest (a .chunk .now) (l .i)) (l .inv .0) (c .before .before .before .before .before .before .before .feed .ensures), c .before .before .before .before .before .before .before .feed .kept .1 .1 .1 .0 ∙ l .inv .1)
 
-same-length-5 : tie.Need-same-length-5 Inv-loop μ-loop
-same-length-5 c = search needs
-
-same-length-6 : tie.Need-same-length-6 Inv-loop μ-loop
-same-length-6 c = search needs
-
-same-length-7 : tie.Need-same-length-7 Inv-loop μ-loop
-same-length-7 c = search needs
-
-same-length-8 : tie.Need-same-length-8 Inv-loop μ-loop
-same-length-8 c = search needs
+same-length-2 : tie.Need-same-length-2 Inv-loop μ-loop
+same-length-2 c = search needs
 
 returns-2 : tie.Need-returns-2 Inv-loop μ-loop
 returns-2 c =
@@ -108,14 +90,8 @@ serve-chunk-spec =
     add-i
     write-answers-requires
     same-length
-    same-length-2
-    same-length-3
-    same-length-4
     returns
     loop-less
     loop-again
-    same-length-5
-    same-length-6
-    same-length-7
-    same-length-8
+    same-length-2
     returns-2)
