@@ -1,0 +1,436 @@
+// The bench program: the line program's frames and one frame for every further call, from standard input to standard output, on a reset card.
+use card::Card;
+use libc::STDERR_FILENO;
+use libc::STDIN_FILENO;
+use libc::STDOUT_FILENO;
+use line::Answered;
+use panel::Plot;
+use panel::Plotted;
+use panel::Reading;
+use transfer::Answer;
+ghost use mathlib.Core.Path.{_≡_};
+ghost use Prim.Native.Nat.{_+_, _≤_, min};
+ghost use lib.ListN.{length};
+
+// After a chunk: the card, how many bytes of the open line are held, and whether to go on.
+struct Turn {
+    card: Card,
+    held: usize,
+    more: bool,
+}
+
+// The lent words and buffers, and the session on them. 16,395 bytes decide a line, being one more than the longest frame has.
+fn main() {
+    let mut settings = [0u16; 16960];
+    let mut tables = [0u16; 512];
+    let mut line = [0u8; 16395];
+    let mut chunk = io::large_buffer();
+    let mut out = io::large_buffer();
+    serve(&mut settings, &mut tables, &mut line, &mut chunk, &mut out);
+}
+
+// The session. Its turns are counted down from a number that no run uses up, since a proved loop has to end. A failed read is tried
+// again, a hundred times in all.
+fn serve(
+    settings: &mut [u16; 16960],
+    tables: &mut [u16; 512],
+    line: &mut [u8; 16395],
+    chunk: &mut [u8; 65536],
+    out: &mut [u8; 65536],
+) {
+    let mut k = card::reset(settings, tables);
+    let mut held: usize = 0;
+    let mut failed: u32 = 0;
+    let mut turns = u64::MAX;
+    while 0 < turns {
+        turns = turns - 1;
+        let got = libc::read(STDIN_FILENO, chunk);
+        if 0 <= got {
+            let t = take_turn(settings, tables, line, chunk, out, k, held, got);
+            if !t.more {
+                return;
+            }
+            k = t.card;
+            held = t.held;
+        } else {
+            failed = failed + 1;
+            if failed == 100 {
+                complain(b"bench: standard input cannot be read\n");
+                return;
+            }
+        }
+    }
+}
+
+// What was read: some bytes, or the end of the input, where the last line may lack its LF.
+fn take_turn(
+    settings: &mut [u16; 16960],
+    tables: &mut [u16; 512],
+    line: &mut [u8],
+    chunk: &[u8],
+    out: &mut [u8],
+    card: Card,
+    held: usize,
+    got: isize,
+) -> Turn
+    requires { ⌜ 65536 ≤ length (now out) ⌝ }
+{
+    if 0 < got {
+        let n = io::count(got, chunk);
+        return serve_chunk(settings, tables, line, out, card, held, &chunk[..n]);
+    }
+    if 0 < held {
+        let a = end_line(settings, tables, line, held, out, 0, card);
+        write_answers(out, a.end);
+    }
+    Turn {
+        card: card,
+        held: 0,
+        more: false,
+    }
+}
+
+// The bytes of a chunk one after the other. The answers are written when there may be no room for one more, and at the end.
+fn serve_chunk(
+    settings: &mut [u16; 16960],
+    tables: &mut [u16; 512],
+    line: &mut [u8],
+    out: &mut [u8],
+    card: Card,
+    held: usize,
+    chunk: &[u8],
+) -> Turn
+    requires { ⌜ 65536 ≤ length (now out) ⌝ }
+{
+    let mut k = card;
+    let mut h = held;
+    let mut end: usize = 0;
+    let mut i: usize = 0;
+    while i < chunk.len() {
+        let b = chunk[i];
+        i = i + 1;
+        if b == 10 {
+            let a = end_line(settings, tables, line, h, out, end, k);
+            k = a.card;
+            h = 0;
+            end = room_made(out, a.end);
+            if 49142 < end {
+                return stopped(k);
+            }
+        } else {
+            h = keep(line, h, b);
+        }
+    }
+    Turn {
+        card: k,
+        held: h,
+        more: write_answers(out, end),
+    }
+}
+
+fn stopped(card: Card) -> Turn {
+    Turn {
+        card: card,
+        held: 0,
+        more: false,
+    }
+}
+
+// Where the answers end once there is room for one more: written, if they must be; still there where they cannot be written.
+fn room_made(out: &[u8], end: usize) -> usize
+    requires { ⌜ end ≤ 65536 ⌝ }
+    ensures { λ r. ⌜ r ≤ end ⌝ }
+{
+    if end <= 49142 {
+        return end;
+    }
+    if write_answers(out, end) { 0 } else { end }
+}
+
+// A line ends: it is answered, and LF ends the answer.
+fn end_line(
+    settings: &mut [u16; 16960],
+    tables: &mut [u16; 512],
+    line: &[u8],
+    held: usize,
+    out: &mut [u8],
+    at: usize,
+    card: Card,
+) -> Answered
+    requires { ⌜ (at ≤ 49142) × (65536 ≤ length (now out)) ⌝ }
+    ensures { λ r. ⌜ r .end ≤ at + 16394 ⌝ }
+{
+    let n = least(held, line.len());
+    let a = answer(settings, tables, card, &line[..n], &mut out[at..]);
+    let end = at + a.end;
+    digits::put(out, end, 10);
+    let k = a.card;
+    Answered {
+        card: k,
+        end: end + 1,
+    }
+}
+
+// A line goes on: the byte is kept while there is room, and how many are held then.
+fn keep(line: &mut [u8], held: usize, b: u8) -> usize {
+    if held < line.len() {
+        digits::put(line, held, b);
+        held + 1
+    } else {
+        held
+    }
+}
+
+// The smaller of two.
+fn least(a: usize, b: usize) -> usize
+    ensures { λ r. ⌜ r ≤ b ⌝ }
+{
+    if a < b { a } else { b }
+}
+
+// Writes the first `end` bytes, or says that they cannot be written.
+fn write_answers(out: &[u8], end: usize) -> bool
+    requires { ⌜ end ≤ 65536 ⌝ }
+{
+    let n = io::count(end as isize, out);
+    if io::write_all(STDOUT_FILENO, &out[..n]) {
+        return true;
+    }
+    complain(b"bench: standard output cannot be written\n");
+    false
+}
+
+// A word on standard error.
+fn complain(words: &[u8]) {
+    io::write_all(STDERR_FILENO, words);
+}
+
+// ---- frames
+
+// The answer to a line, laid into the first bytes of `out`: its first byte names the frame.
+fn answer(
+    settings: &mut [u16; 16960],
+    tables: &mut [u16; 512],
+    card: Card,
+    line: &[u8],
+    out: &mut [u8],
+) -> Answered
+    ensures { λ r. ⌜ r .end ≤ 16393 ⌝ }
+{
+    if !digits::all_digits(line) {
+        return bad(card, out);
+    }
+    match digits::byte_at(line, 0) {
+        0x11 => write_slice(settings, tables, card, line, out),
+        0x12 => read_slice(settings, card, line, out),
+        0x18 => reset(settings, tables, card, line, out),
+        0x1B => plot(settings, card, line, out),
+        0x1C => show(card, line, out),
+        _ => line::answer_line(settings, tables, card, line, out),
+    }
+}
+
+// FF: the line is no frame.
+fn bad(card: Card, out: &mut [u8]) -> Answered
+    ensures { λ r. ⌜ r .end ≤ 16393 ⌝ }
+{
+    digits::put2(out, 0, 0xFF);
+    Answered { card: card, end: 2 }
+}
+
+// 11, start, count, words: a write of `count` from a slice of these words.
+fn write_slice(
+    settings: &mut [u16; 16960],
+    tables: &mut [u16; 512],
+    card: Card,
+    line: &[u8],
+    out: &mut [u8],
+) -> Answered
+    ensures { λ r. ⌜ r .end ≤ 16393 ⌝ }
+{
+    let n = line.len();
+    if n < 10 {
+        return bad(card, out);
+    }
+    let k = (n - 10) / 4;
+    if n != 10 + 4 * k {
+        return bad(card, out);
+    }
+    if 4096 < k {
+        return bad(card, out);
+    }
+    let mut words = [0u16; 4096];
+    digits::words(line, 10, k as u16, &mut words);
+    let w = transfer::write(
+        settings,
+        tables,
+        card,
+        digits::word_at(line, 2),
+        digits::word_at(line, 6) as usize,
+        &words[..k],
+    );
+    let answer = w.answer;
+    put_answer(out, 0x91, answer);
+    let after = w.card;
+    Answered {
+        card: after,
+        end: 8,
+    }
+}
+
+// 12, start, count, length up to 1000 (hex), fill: a read into a slice of that length, and the whole slice.
+fn read_slice(settings: &[u16; 16960], card: Card, line: &[u8], out: &mut [u8]) -> Answered
+    ensures { λ r. ⌜ r .end ≤ 16393 ⌝ }
+{
+    if line.len() != 18 {
+        return bad(card, out);
+    }
+    let asked = digits::word_at(line, 10);
+    if 4096 < asked {
+        return bad(card, out);
+    }
+    let mut words = [0u16; 4096];
+    slots::fill(&mut words, 0, 4096, digits::word_at(line, 14));
+    put_answer(
+        out,
+        0x92,
+        read_into(settings, card, line, &mut words, asked as usize),
+    );
+    digits::put_words(out, 8, &words, asked);
+    Answered {
+        card: card,
+        end: 8 + 4 * (asked as usize),
+    }
+}
+
+// The read itself, into the first n words.
+fn read_into(
+    settings: &[u16; 16960],
+    card: Card,
+    line: &[u8],
+    words: &mut [u16],
+    n: usize,
+) -> Answer
+    requires { ⌜ n ≤ length (now words) ⌝ }
+{
+    transfer::read(
+        settings,
+        card,
+        digits::word_at(line, 2),
+        digits::word_at(line, 6) as usize,
+        &mut words[..n],
+    )
+}
+
+// The head of a transfer's answer.
+fn put_answer(out: &mut [u8], name: usize, answer: Answer) {
+    line::put_head(
+        out,
+        0,
+        name,
+        transfer::number(answer),
+        transfer::processed(answer),
+    )
+}
+
+// 18: a reset.
+fn reset(
+    settings: &mut [u16; 16960],
+    tables: &mut [u16; 512],
+    card: Card,
+    line: &[u8],
+    out: &mut [u8],
+) -> Answered
+    ensures { λ r. ⌜ r .end ≤ 16393 ⌝ }
+{
+    if line.len() != 2 {
+        return bad(card, out);
+    }
+    digits::put2(out, 0, 0x98);
+    Answered {
+        card: card::reset(settings, tables),
+        end: 2,
+    }
+}
+
+// 1B, channel, table, point: volts × 32768 and microseconds of a plotted point, or none.
+fn plot(settings: &[u16; 16960], card: Card, line: &[u8], out: &mut [u8]) -> Answered
+    ensures { λ r. ⌜ r .end ≤ 16393 ⌝ }
+{
+    if line.len() != 8 {
+        return bad(card, out);
+    }
+    let channel = digits::byte_at(line, 2) as usize;
+    let table = digits::byte_at(line, 4) as usize;
+    let point = digits::byte_at(line, 6) as usize;
+    match panel::plot_point(settings, channel, table, point) {
+        Plot::Point(p) => {
+            put_point(out, p);
+            Answered {
+                card: card,
+                end: 28,
+            }
+        }
+        Plot::Nothing => {
+            digits::put4(out, 0, 0x9B00);
+            Answered { card: card, end: 4 }
+        }
+    }
+}
+
+fn put_point(out: &mut [u8], p: Plotted) {
+    digits::put4(out, 0, 0x9B01);
+    digits::put8(out, 4, bits(p.volts * 32768.0));
+    let micros = bits(p.micros);
+    digits::put8(out, 12, micros / 0x100000000);
+    digits::put8(out, 20, micros);
+}
+
+// 1C, address, word: what the panel shows, as a kind and a value.
+fn show(card: Card, line: &[u8], out: &mut [u8]) -> Answered
+    ensures { λ r. ⌜ r .end ≤ 16393 ⌝ }
+{
+    if line.len() != 10 {
+        return bad(card, out);
+    }
+    let word = digits::word_at(line, 6);
+    match panel::show_word(digits::word_at(line, 2), word) {
+        Reading::Nothing => put_reading(out, 0, word as usize),
+        Reading::Volts(v) => put_reading(out, 1, bits(v * 32768.0)),
+        Reading::Factor(f) => put_reading(out, 2, bits(f * 256.0)),
+        Reading::Micros(_) => put_reading(out, 3, word as usize),
+        Reading::Samples(_) => put_reading(out, 4, word as usize),
+        Reading::Plain(_) => put_reading(out, 5, word as usize),
+    }
+    Answered {
+        card: card,
+        end: 12,
+    }
+}
+
+fn put_reading(out: &mut [u8], kind: usize, value: usize) {
+    digits::put2(out, 0, 0x9C);
+    digits::put2(out, 2, kind);
+    digits::put8(out, 4, value);
+}
+
+// ---- numbers
+
+// A whole number in two's complement.
+fn bits(x: f64) -> usize {
+    if x < 0.0 {
+        std::num::wrapping_sub_u64(0, whole(-x)) as usize
+    } else {
+        whole(x) as usize
+    }
+}
+
+// A whole number from 0 up; 0 where it does not fit.
+fn whole(x: f64) -> u64 {
+    if x > -1.0 {
+        if x < 18446744073709551616.0 {
+            return std::num::truncating_f64_to_u64(x);
+        }
+    }
+    0
+}
