@@ -8,8 +8,7 @@ use panel::Plot;
 use panel::Plotted;
 use panel::Reading;
 use transfer::Answer;
-ghost use mathlib.Core.Path.{_≡_};
-ghost use Prim.Native.Nat.{_+_, _≤_, min};
+ghost use Prim.Native.Nat.{_+_, _≤_};
 ghost use lib.ListN.{length};
 
 // After a chunk: the card, how many bytes of the open line are held, and whether to go on.

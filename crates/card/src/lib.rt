@@ -10,7 +10,7 @@ ghost use mathlib.Core.Path.{_≡_};
 ghost use Rattle.word.specs.Lent.{lent, left};
 ghost use Rattle.card.specs.Card.{before, Leaves, LeavesWhole, LeavesAll, noChannel, channelOf, withChannel, countOf, withCount};
 ghost use Rattle.card.specs.Trigger.{counted, struck, triggerOf, acceptedOf, eventOf};
-ghost use Rattle.card.specs.Tick.{moved, advanced, tickWith, ticks};
+ghost use Rattle.card.specs.Tick.{advanced, tickWith, ticks};
 ghost use Rattle.card.specs.Reset.{settingsReset, cardReset, resetOf};
 
 // The level and the event are those shown in 0x4210 and 0x4211.

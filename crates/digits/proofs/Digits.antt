@@ -9,7 +9,7 @@ use borrow.Author.Tests.{ltb-true, ltb-false, le-leb, lt-leb}
 use lib.Dec.{ltb}
 use lib.ListN.{length, set, getD, take, drop, length-append, length-set, List·getD-eq-default}
 use lib.Seq.{set-out, sets, sets-eq, drop-cons, take-suc, take-all, take-at, length-take-le}
-use Rattle.digits.specs.Digits.{inside, isDigit, valueOf, allDigits, byteAt, wordAt, wordsFrom, hex2, hex4, hex8, hexAll}
+use Rattle.digits.specs.Digits.{inside, isDigit, allDigits, byteAt, wordAt, wordsFrom, hex2, hex4, hex8, hexAll}
 
 -- ---- a byte among the digits
 

@@ -1,6 +1,6 @@
 -- Where each register is: a rule of every row, and the rows of the words that theorems name by their address. Assumes nothing.
 use mathlib.Core.Path.{_≡_, refl, sym, ap, _∙_}
-use mathlib.Core.Bool.{Bool, true, false, cond, true≢false}
+use mathlib.Core.Bool.{Bool, true, false, cond}
 use mathlib.Core.List.{List}
 use Prim.Native.Nat.{ℕ, _+_, _-_, _/_, _%_, _≤_, _<_}
 use native.Mathlib.Omega.{arith}
@@ -12,7 +12,7 @@ use Rattle.map.specs.declared.Setting.the-variants as S
 use Rattle.map.specs.declared.Field.the-variants as F
 use Rattle.map.specs.declared.Register.{Register}
 use Rattle.map.specs.declared.Register.the-variants as R
-use Rattle.map.specs.Map.{Row, Hit, hit, miss, scan, channelRows, cardRows, base, settings, point, noRow, namedIn, named, registerOf}
+use Rattle.map.specs.Map.{Row, Hit, hit, miss, scan, channelRows, cardRows, base, settings, point, noRow, namedIn, registerOf}
 use Rattle.map.proofs.Rows.{All, Hits, at, hits, scan-all, in-row-k}
 use Rattle.map.proofs.Blocks.{channel-ordered, card-ordered, in-card, channel-register}
 

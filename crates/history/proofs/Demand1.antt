@@ -14,6 +14,7 @@ use Rattle.transfer.specs.Word.{isLevel, heldAt}
 use Rattle.history.specs.Demand1.{HeldElsewhere, Demand1}
 use Rattle.history.proofs.Numbers.{write-answered, read-answered}
 use Rattle.history.proofs.Effects.{all-effects}
+use Rattle.history.proofs.Counted.{counted-is-done}
 
 module _ (s : List ℕ) (level event : ℕ) where
   held : heldAt s (R.Slot level) event ≡ true → HeldElsewhere s level event
@@ -38,4 +39,4 @@ module _ (s : List ℕ) (level event : ℕ) where
 
 -- DEMAND 1
 pub demand1 : Demand1
-demand1 = record { write = write-answered; read = read-answered; effects = all-effects; seven = held; seven-only = held-only }
+demand1 = record { write = write-answered; read = read-answered; effects = all-effects; counted = counted-is-done; seven = held; seven-only = held-only }

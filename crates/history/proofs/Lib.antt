@@ -10,13 +10,14 @@ pub mod Effects
 pub mod Writing
 pub mod Reading
 pub mod Numbers
-pub mod Demand1
 pub mod Turns
 pub mod Parts
 pub mod Manual
 pub mod Tracks
 pub mod Demand3
 pub mod Settings
+pub mod Counted
+pub mod Demand1
 pub mod Counts
 pub mod Triggers
 pub mod Story

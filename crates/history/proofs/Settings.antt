@@ -76,7 +76,7 @@ module _ (b : ℕ) (setting : isSetting (registerOf b) ≡ true) where
   abbrev words : State → List ℕ
   words x = x .settings
 
-  word-left : (st : State) (a v : ℕ) (y : State) → length (st .settings) ≡ 16960 → Does st a v y → word (y .settings) b ≡ wordLeft b a v (word (st .settings) b)
+  pub word-left : (st : State) (a v : ℕ) (y : State) → length (st .settings) ≡ 16960 → Does st a v y → word (y .settings) b ≡ wordLeft b a v (word (st .settings) b)
   word-left st a v y l (Keeps i e) = rw e (keeps (st .settings) a v l i)
   word-left st a v y l (Outputs c h i f e) =
       stays (st .settings) (y .settings) a v (other a (R.Output c) (ap registerOf i ∙ output-register c h) refl) (ne-eqb a 0x4201 (λ d. absurd (omega arith))) (ap words e)
@@ -141,7 +141,7 @@ module _ (b : ℕ) (setting : isSetting (registerOf b) ≡ true) where
   acts-left st (Read start count ws ∷ xs) w l e = acts-left st xs w l e
   acts-left st (Reset ∷ xs) w l e = acts-left (act st Reset) xs (resetWord b) (reset-length (st .settings) ∙ l) (reset-left (st .settings) l)
 
-  setting-reads : (st : State) → readBack st b ≡ word (st .settings) b
+  pub setting-reads : (st : State) → readBack st b ≡ word (st .settings) b
   setting-reads st = go (kept (registerOf b) setting)
     where
       go : Kept (registerOf b) → readAt (st .settings) (st .card) b (registerOf b) ≡ word (st .settings) b

@@ -10,6 +10,7 @@ use Rattle.transfer.specs.Word.{heldAt}
 use Rattle.transfer.specs.Transfer.{writeOf, readOf}
 use Rattle.history.specs.Numbers.{WriteAnswered, ReadAnswered}
 use Rattle.history.specs.Effects.{AllEffects}
+use Rattle.history.specs.Counted.{CountedIsDone}
 use Rattle.history.specs.Triggers.{Holds}
 
 -- 7: 'unless a slot of a different level holds it'; 0xFE is null
@@ -23,8 +24,9 @@ pub record Demand1 : Type 0 where
   -- every transfer in every state: its number and words processed, and what it comes to
   pub write : (st : State) (start count : ℕ) (ws : List ℕ) → WriteAnswered st start count ws (writeOf st start count ws)
   pub read : (st : State) (start count : ℕ) (ws : List ℕ) → ReadAnswered st start count ws (readOf (st .settings) (st .card) start count ws)
-  -- what a word that is done does
+  -- what a word that is done does, and that every word counted is done
   pub effects : AllEffects
+  pub counted : CountedIsDone
   -- the case of 7, in the paper's words
   pub seven : (s : List ℕ) (level event : ℕ) → heldAt s (R.Slot level) event ≡ true → HeldElsewhere s level event
   pub seven-only : (s : List ℕ) (level event : ℕ) → HeldElsewhere s level event → heldAt s (R.Slot level) event ≡ true

@@ -1,6 +1,7 @@
 pub mod History
 pub mod Numbers
 pub mod Effects
+pub mod Counted
 pub mod Frame
 pub mod Sound
 pub mod Triggers

@@ -5,10 +5,10 @@ use mathlib.Core.List.{List, [], _∷_, _++_, append-nil, append-assoc}
 use Prim.Native.Nat.{ℕ, suc, _+_, _≤_, _<_, min}
 use native.Mathlib.Numerals.{add-one}
 use native.Mathlib.Omega.{arith}
-use borrow.Author.Tests.{eq-eqb, ne-eqb, ltb-true, ltb-false, le-leb, lt-leb}
+use borrow.Author.Tests.{eq-eqb, ne-eqb, le-leb, lt-leb}
 use lib.Dec.{eqb, ltb, leb}
 use lib.ListN.{length, set, getD, take, drop, length-append, drop-of-length-le}
-use lib.Seq.{sets, take-suc, take-all, drop-cons}
+use lib.Seq.{sets, take-suc, drop-cons}
 use Rattle.card.specs.declared.Card.{Card}
 use Rattle.card.specs.Card.{State, state}
 use Rattle.line.specs.declared.Answered.{Answered}

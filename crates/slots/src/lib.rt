@@ -1,7 +1,7 @@
 // The trigger map among lent words: who holds an event, the event image, and erasing it.
 // The lent words have the word of address a at place a; slot n is word 0x4000 + n, of level n / 8.
 ghost use mathlib.Core.Path.{_≡_};
-ghost use Prim.Native.Nat.{_+_, _≤_, _<_};
+ghost use Prim.Native.Nat.{_+_, _<_};
 ghost use Rattle.word.specs.Lent.{lent, left};
 ghost use Rattle.slots.specs.Slots.{holds, holderFrom, holderOf, otherOf, imageOf, filled, erased, InLevels};
 

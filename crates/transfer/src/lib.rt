@@ -11,10 +11,9 @@ ghost use mathlib.Core.Path.{_≡_};
 ghost use Prim.Native.Nat.{_≤_};
 ghost use lib.ListN.{take, length};
 ghost use Rattle.word.specs.Lent.{lent, left};
-ghost use Rattle.map.specs.Map.{registerOf};
 ghost use Rattle.channel.specs.Channel.{with};
 ghost use Rattle.card.specs.Card.{before, LeavesWhole};
-ghost use Rattle.transfer.specs.Word.{Fits, Steps, fixedAt, isLevel, heldAt, runningAt, judgeOf, effectOf, outputTo, overflowCleared, performOf, writeWord, statusOf, readWord};
+ghost use Rattle.transfer.specs.Word.{Fits, Steps, fixedAt, heldAt, runningAt, judgeOf, effectOf, outputTo, overflowCleared, performOf, writeWord, statusOf, readWord};
 ghost use Rattle.transfer.specs.Transfer.{whyNumber, numberOf, processedOf, badCount, writable, readable, Wrote, writeWords, writeOf, Reads, readWords, readOf};
 
 // Why a word is refused.

@@ -1,6 +1,6 @@
 -- `card::strike` meets its contract: the four channels, each over the tables that the one before left. Assumes nothing.
 use borrow.Author.Needs.{needs}
-use mathlib.Core.Path.{ap, _∙_}
+use mathlib.Core.Path.{ap}
 use Rattle.channel.specs.Channel.{triggered}
 use Rattle.card.specs.Card.{withChannels}
 use Rattle.card.proofs.All.{all-four}

@@ -2,7 +2,6 @@
 use borrow.Author.Needs.{needs}
 use borrow.Author.Tests.{lt-ltb, le-ltb}
 use mathlib.Core.Path.{refl}
-use native.Mathlib.Omega.{arith}
 use Rattle.panel.specs.Plots.{plotOf}
 use Rattle.panel.proofs.plot_point.Statement.{statement}
 use Rattle.panel.proofs.plot_point.Tie as tie

@@ -1,5 +1,4 @@
 -- `sum::narrow` meets its contract, by the sign: a negative number has its word 65,536 above it. Assumes nothing.
-use borrow.Author.Needs.{needs}
 use mathlib.Core.Path.{_≡_, refl}
 use mathlib.Core.Bool.{true, false, true≢false}
 use Prim.Native.Nat.{suc, _-_, _<_, _^_}

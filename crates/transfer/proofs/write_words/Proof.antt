@@ -1,10 +1,10 @@
 -- `transfer::write_words` meets its contract: what is left to do from here equals the whole. Assumes nothing.
 use borrow.Author.Needs.{needs}
-use mathlib.Core.Path.{_≡_, refl, sym, ap, _∙_}
+use mathlib.Core.Path.{_≡_, sym, ap, _∙_}
 use Prim.Native.Nat.{_≤_, _+_, _-_}
 use native.Mathlib.Nat.{le-antisymm}
 use native.Mathlib.Omega.{arith}
-use lib.ListN.{length, getD, take, drop}
+use lib.ListN.{getD, take, drop}
 use Rattle.card.specs.Card.{State, state}
 use Rattle.transfer.specs.Word.{One, one, writeWord}
 use Rattle.transfer.specs.Transfer.{Out, written, writeWords}
