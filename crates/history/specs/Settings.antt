@@ -42,7 +42,7 @@ abbrev pub lastWord : ℕ → State → List Act → ℕ → ℕ
 lastWord b st [] w = w
 lastWord b st (x ∷ xs) w = lastWord b (act st x) xs (leftBy b st x w)
 
--- at every address that has a setting
+-- at every address that has a setting, of 16,960 words, as every call has them by type
 pub record SettingsKept : Type 0 where
   -- after any history the last word done there, or what an erase or a reset left
   pub kept : (st : State) → length (st .settings) ≡ 16960 → (b : ℕ) → isSetting (registerOf b) ≡ true

@@ -126,7 +126,7 @@ pub record Shows (c : ℕ) (st : State) (x : Told) : Type 0 where
   -- 'grows by 1 (65,535 goes round to 0)'
   pub overflow : readBack st (base c + 0xA39) ≡ x .overflowed % 65536
 
--- after any history of a card that was reset, whose words have 16 bits
+-- after any history of a card that was reset; that it has 16,960 settings and 512 loaded words, of 16 bits each, is so by type
 unfoldable pub ChannelsRight : Type 0
 ChannelsRight =
     (s l : List ℕ) → length s ≡ 16960 → length l ≡ 512 → (xs : List Act) → Words16 xs → (c : ℕ) → c < 4

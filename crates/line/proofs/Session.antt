@@ -18,9 +18,10 @@ use Rattle.card.specs.Tick.{tickWith, ticks}
 use Rattle.transfer.specs.Transfer.{Out, Filled, numberOf, processedOf, writeOf, readOf}
 use Rattle.line.specs.declared.Frame.{Frame}
 use Rattle.line.specs.declared.Frame.the-variants.{Write, Read, Ticks, Event, Bad}
+use Rattle.line.specs.declared.Answered.{Answered}
 use Rattle.line.specs.declared.Stream.{Stream}
 use Rattle.line.specs.Frame.{wordsIn, wordsOf, frameOf, writeFrame, readFrame, ticksFrame, eventFrame}
-use Rattle.line.specs.Answer.{headOf, outputsOf, outputsText, Step, onFrame, stepOf}
+use Rattle.line.specs.Answer.{headOf, outputsOf, outputsText, Step, onFrame, stepOf, Answers}
 use Rattle.line.specs.Session.{linesFrom, linesOf, answersOf, session, Flow, flow, bare, after, most, longest, ended, kept, byteOf, feedOf, takenOf, finishOf, Feeds, streamOf, Fed, Finished, serveOf, writtenOf, joined, endsIn}
 use Rattle.digits.proofs.Digits.{take-sets}
 use Rattle.line.proofs.Frames.{step-is}
@@ -204,7 +205,8 @@ module _ (room : ℕ) (r : longest ≤ room) where
       ∙ written-is cs (feedOf t c)
       ∙ ap (λ (u : Flow). finishOf room u .text) (sym (feed-append t c (joined cs)))
 
-  -- THE SESSION: whatever the chunks, what is written is the session's answers to the whole input
+  -- THE SESSION: whatever the chunks, what is written is the session's answers to the whole input; the open line has room for 263 bytes,
+  -- as every call's has by type
   pub chunks-give-session : (cs : List (List ℕ)) (settings tables line : List ℕ) → most ≤ length line
       → writtenOf room (flow (resetOf settings tables) line 0 []) cs ≡ session settings tables (joined cs)
   unfolding session
@@ -315,6 +317,17 @@ pub finished-once : (t : Flow) (before a a′ s s′ l l′ n n′ : List ℕ) (
     → Finished t before a s l n r → Finished t before a′ s′ l′ n′ r′ → (a ≡ a′) × (s ≡ s′) × (l ≡ l′) × (n ≡ n′) × (r ≡ r′)
 finished-once t before a a′ s s′ l l′ n n′ r r′ f g =
     feeds-once (finishOf (length before) t) 0 before a a′ s s′ l l′ n n′ r r′ (f .feeds) (g .feeds) (f .took ∙ sym (g .took))
+
+pub answered-once : (d : Step) (at : ℕ) (before a a′ s s′ l l′ : List ℕ) (r r′ : Answered)
+    → Answers d at before a s l r → Answers d at before a′ s′ l′ r′ → (a ≡ a′) × (s ≡ s′) × (l ≡ l′) × (r ≡ r′)
+answered-once d at before a a′ s s′ l l′ r r′ f g =
+    let w : state (r .card) s l ≡ state (r′ .card) s′ l′ = f .same ∙ sym (g .same) in
+    let e : r .end ≡ r′ .end = f .puts .ends ∙ sym (g .puts .ends) in (
+      f .puts .buffer ∙ sym (g .puts .buffer),
+      ap (λ (x : State). x .settings) w,
+      ap (λ (x : State). x .tables) w,
+      ap (λ (x : State). record { card = x .card; end = r .end }) w ∙ ap (λ (x : ℕ). record { card = r′ .card; end = x }) e,
+    )
 
 -- ---- a few lines, read
 
