@@ -159,7 +159,7 @@ fn end_line(
     requires { ⌜ (at ≤ 49142) × (65536 ≤ length (now out)) ⌝ }
     ensures { λ r. ⌜ r .end ≤ at + 16394 ⌝ }
 {
-    let n = least(held, line.len());
+    let n = word::least(held, line.len());
     let a = answer(settings, tables, card, &line[..n], &mut out[at..]);
     let end = at + a.end;
     digits::put(out, end, 10);
@@ -178,13 +178,6 @@ fn keep(line: &mut [u8], held: usize, b: u8) -> usize {
     } else {
         held
     }
-}
-
-// The smaller of two.
-fn least(a: usize, b: usize) -> usize
-    ensures { λ r. ⌜ r ≤ b ⌝ }
-{
-    if a < b { a } else { b }
 }
 
 // Writes the first `end` bytes, or says that they cannot be written.

@@ -1,6 +1,6 @@
 // Hexadecimal digits: numbers read from lent bytes, and written into them. Past the end of lent bytes a byte is read as 0, and nothing is stored.
 ghost use mathlib.Core.Path.{_≡_};
-ghost use Prim.Native.Nat.{_≤_, _<_, min};
+ghost use Prim.Native.Nat.{_<_};
 ghost use lib.ListN.{getD, set, take};
 ghost use lib.Seq.{sets};
 ghost use Rattle.word.specs.Lent.{lent, left};
@@ -106,7 +106,7 @@ pub fn put_words(out: &mut [u8], at: usize, words: &[u16], n: u16)
     if out.len() <= at {
         return;
     }
-    let count = least(n as usize, words.len());
+    let count = word::least(n as usize, words.len());
     let mut i: usize = 0;
     while i < count {
         put4(out, at + 4 * i, word::get(words, i) as usize);
@@ -155,11 +155,4 @@ fn get(s: &[u8], i: usize) -> u8
     ensures { λ r. ⌜ r ≡ getD (lent s) i 0 ⌝ }
 {
     if i < s.len() { s[i] } else { 0 }
-}
-
-// The smaller of two.
-fn least(a: usize, b: usize) -> usize
-    ensures { λ r. ⌜ (r ≡ min a b) × (r ≤ a) × (r ≤ b) ⌝ }
-{
-    if a < b { a } else { b }
 }

@@ -4,6 +4,7 @@ use mathlib.Core.List.{List, [], _∷_, _++_}
 use Prim.Native.Nat.{ℕ, _+_, _≤_}
 use lib.ListN.{length, take, replicate}
 use lib.Seq.{sets}
+use Rattle.word.specs.Lent.{Lent, lent, left}
 use Rattle.digits.specs.Digits.{hex2, hex4, hexAll}
 use Rattle.card.specs.declared.Card.{Card}
 use Rattle.card.specs.Card.{State, state, channelOf}
@@ -72,3 +73,7 @@ pub record Puts (x : List ℕ) (at : ℕ) (before after : List ℕ) (to : ℕ) :
 pub record Answers (d : Step) (at : ℕ) (before after settings tables : List ℕ) (r : Answered) : Type 0 where
   pub same : state (r .card) settings tables ≡ d .state
   pub puts : Puts (d .text) at before after (r .end)
+
+-- the same of a call: the buffer as it is lent and left, and the memory left
+abbrev pub Gives : Step → ℕ → Lent → Lent → Lent → Answered → Type 0
+Gives d at out settings tables r = Answers d at (lent out) (left out) (left settings) (left tables) r

@@ -6,9 +6,11 @@ use Prim.Native.Nat.{ℕ, zero, suc, _+_, _≤_, min}
 use lib.Dec.{eqb, ltb, leb}
 use lib.ListN.{length, take, drop, set}
 use lib.Seq.{sets}
+use Rattle.word.specs.Lent.{Lent, lent, left}
 use Rattle.card.specs.declared.Card.{Card}
 use Rattle.card.specs.Card.{State, state}
 use Rattle.card.specs.Reset.{resetOf}
+use Rattle.line.specs.declared.Answered.{Answered}
 use Rattle.line.specs.declared.Stream.{Stream}
 use Rattle.line.specs.Answer.{stepOf}
 
@@ -64,6 +66,10 @@ longest = 265
 -- what a call finds open: more bytes held than 263 count as 263
 abbrev pub opened : Card → List ℕ → List ℕ → List ℕ → ℕ → Flow
 opened k s l line held = flow (state k s l) line (min held most) []
+
+-- the same of what it is lent
+abbrev pub found : Card → Lent → Lent → Lent → ℕ → Flow
+found k settings tables line held = opened k (lent settings) (lent tables) (lent line) held
 
 -- a line ends: it is answered
 unfoldable pub ended : Flow → Flow
@@ -121,6 +127,17 @@ pub record Finished (t : Flow) (before after settings tables line : List ℕ) (r
   pub took : r .taken ≡ 0
   pub feeds : Feeds (finishOf (length before) t) 0 before after settings tables line (r .card) (r .held) (r .end)
   pub fits : r .end ≤ length before
+
+-- the same of a call: the buffer as it is lent and left, and the memory left
+abbrev pub Takes : Flow → Lent → Lent → Lent → Lent → Lent → Stream → Type 0
+Takes t chunk out settings tables line r = Fed t (lent chunk) (lent out) (left out) (left settings) (left tables) (left line) r
+
+abbrev pub Finishes : Flow → Lent → Lent → Lent → Lent → Stream → Type 0
+Finishes t out settings tables line r = Finished t (lent out) (left out) (left settings) (left tables) (lent line) r
+
+-- a line that ends at a call
+abbrev pub Ends : Flow → ℕ → Lent → Lent → Lent → Lent → Answered → Type 0
+Ends t at out settings tables line r = Feeds (ended t) at (lent out) (left out) (left settings) (left tables) (lent line) (r .card) 0 (r .end)
 
 -- keeping a byte: the buffer before and after, and how many bytes it holds
 pub record Keeps (before : List ℕ) (held b : ℕ) (after : List ℕ) (r : ℕ) : Type 0 where

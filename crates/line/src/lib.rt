@@ -2,7 +2,7 @@
 use card::Card;
 ghost use mathlib.Core.Path.{_≡_};
 ghost use mathlib.Core.List.{[]};
-ghost use Prim.Native.Nat.{_+_, _^_, _≤_, _<_, min};
+ghost use Prim.Native.Nat.{_+_, _^_, _≤_, _<_};
 ghost use lib.ListN.{replicate};
 ghost use lib.Seq.{sets};
 ghost use Rattle.word.specs.Lent.{lent, left};
@@ -11,8 +11,8 @@ ghost use Rattle.card.specs.Card.{before, LeavesWhole, channelOf};
 ghost use Rattle.card.specs.Reset.{resetOf};
 ghost use Rattle.transfer.specs.Transfer.{readOf};
 ghost use Rattle.line.specs.Frame.{frameOf, writeFrame, readFrame, ticksFrame, eventFrame};
-ghost use Rattle.line.specs.Answer.{headOf, readText, outputsOf, outputsText, onFrame, stepOf, Puts, Answers};
-ghost use Rattle.line.specs.Session.{streamOf, opened, ended, flow, Feeds, Fed, Finished, Keeps};
+ghost use Rattle.line.specs.Answer.{headOf, readText, outputsOf, outputsText, onFrame, stepOf, Puts, Gives};
+ghost use Rattle.line.specs.Session.{streamOf, found, flow, Takes, Finishes, Ends, Keeps};
 
 // What a line says.
 pub enum Frame {
@@ -55,10 +55,10 @@ pub fn feed(
     held: usize,
     chunk: &[u8],
 ) -> Stream
-    ensures { λ r. ⌜ Fed (opened card (lent settings) (lent tables) (lent line) held) (lent chunk) (lent out) (left out) (left settings) (left tables) (left line) r ⌝ }
+    ensures { λ r. ⌜ Takes (found card settings tables line held) chunk out settings tables line r ⌝ }
 {
     let mut k = card;
-    let mut h = least(held, 263);
+    let mut h = word::least(held, 263);
     let mut end: usize = 0;
     let mut i: usize = 0;
     while i < chunk.len() {
@@ -88,9 +88,9 @@ pub fn finish(
     card: Card,
     held: usize,
 ) -> Stream
-    ensures { λ r. ⌜ Finished (opened card (lent settings) (lent tables) (lent line) held) (lent out) (left out) (left settings) (left tables) (lent line) r ⌝ }
+    ensures { λ r. ⌜ Finishes (found card settings tables line held) out settings tables line r ⌝ }
 {
-    let h = least(held, 263);
+    let h = word::least(held, 263);
     if h == 0 {
         return reached(card, h, 0, 0);
     }
@@ -109,7 +109,7 @@ pub fn answer_line(
     line: &[u8],
     out: &mut [u8],
 ) -> Answered
-    ensures { λ r. ⌜ Answers (stepOf (before card settings tables) (lent line)) 0 (lent out) (left out) (left settings) (left tables) r ⌝ }
+    ensures { λ r. ⌜ Gives (stepOf (before card settings tables) (lent line)) 0 out settings tables r ⌝ }
 {
     answer(settings, tables, card, line, out, 0)
 }
@@ -167,10 +167,10 @@ fn end_line(
     at: usize,
 ) -> Answered
     requires { ⌜ at < 2 ^ 63 ⌝ }
-    ensures { λ r. ⌜ Feeds (ended (flow (before card settings tables) (lent line) held [])) at (lent out) (left out) (left settings) (left tables) (lent line) (r .card) 0 (r .end) ⌝ }
+    ensures { λ r. ⌜ Ends (flow (before card settings tables) (lent line) held []) at out settings tables line r ⌝ }
     ensures { λ r. ⌜ r .end ≤ at + 265 ⌝ }
 {
-    let n = least(held, line.len());
+    let n = word::least(held, line.len());
     let a = answer(settings, tables, card, &line[..n], out, at);
     let end = a.end;
     digits::put(out, end, 10);
@@ -194,13 +194,6 @@ fn keep(line: &mut [u8; 263], held: usize, b: u8) -> usize
     }
 }
 
-// The smaller of two.
-fn least(a: usize, b: usize) -> usize
-    ensures { λ r. ⌜ (r ≡ min a b) × (r ≤ a) × (r ≤ b) ⌝ }
-{
-    if a < b { a } else { b }
-}
-
 // ---- answers
 
 // The answer to a line, laid into the buffer from `at` on.
@@ -213,7 +206,7 @@ fn answer(
     at: usize,
 ) -> Answered
     requires { ⌜ at < 2 ^ 63 ⌝ }
-    ensures { λ r. ⌜ Answers (stepOf (before card settings tables) (lent line)) at (lent out) (left out) (left settings) (left tables) r ⌝ }
+    ensures { λ r. ⌜ Gives (stepOf (before card settings tables) (lent line)) at out settings tables r ⌝ }
 {
     match parse(line) {
         Frame::Write { start, count } => answer_write(
@@ -251,7 +244,7 @@ fn answer_write(
     at: usize,
 ) -> Answered
     requires { ⌜ (at < 2 ^ 63) × (count ≤ 64) ⌝ }
-    ensures { λ r. ⌜ Answers (onFrame (before card settings tables) (lent line) (Frame.Write start count)) at (lent out) (left out) (left settings) (left tables) r ⌝ }
+    ensures { λ r. ⌜ Gives (onFrame (before card settings tables) (lent line) (Frame.Write start count)) at out settings tables r ⌝ }
 {
     let mut buffer = [0u16; 64];
     digits::words(line, 6, count as u16, &mut buffer);
@@ -302,7 +295,7 @@ fn answer_ticks(
     at: usize,
 ) -> Answered
     requires { ⌜ at < 2 ^ 63 ⌝ }
-    ensures { λ r. ⌜ Answers (onFrame (before card settings tables) (lent line) (Frame.Ticks n)) at (lent out) (left out) (lent settings) (left tables) r ⌝ }
+    ensures { λ r. ⌜ Gives (onFrame (before card settings tables) (lent line) (Frame.Ticks n)) at out settings tables r ⌝ }
 {
     let k = card::run(settings, tables, card, n as u32);
     let end = put_outputs(k, 0x83, out, at);
@@ -320,7 +313,7 @@ fn answer_event(
     at: usize,
 ) -> Answered
     requires { ⌜ at < 2 ^ 63 ⌝ }
-    ensures { λ r. ⌜ Answers (onFrame (before card settings tables) (lent line) (Frame.Event e)) at (lent out) (left out) (lent settings) (left tables) r ⌝ }
+    ensures { λ r. ⌜ Gives (onFrame (before card settings tables) (lent line) (Frame.Event e)) at out settings tables r ⌝ }
 {
     let k = card::tick(settings, tables, card, e);
     let end = put_outputs(k, 0x84, out, at);

@@ -6,7 +6,7 @@ use libc::STDOUT_FILENO;
 ghost use Prim.Native.Nat.{_≤_};
 ghost use lib.ListN.{length};
 ghost use Rattle.word.specs.Lent.{lent, left};
-ghost use Rattle.line.specs.Session.{opened};
+ghost use Rattle.line.specs.Session.{found};
 ghost use Rattle.rampcard.specs.Served.{Served};
 
 // After a chunk: the card, how many bytes of the open line are held, how many bytes were taken, and whether to go on.
@@ -103,7 +103,7 @@ fn serve_chunk(
     chunk: &[u8],
 ) -> Turn
     requires { ⌜ 265 ≤ length (now out) ⌝ }
-    ensures { λ r. ⌜ Served (opened card (lent settings) (lent tables) (lent line) held) (lent chunk) (left settings) (left tables) (left line) r ⌝ }
+    ensures { λ r. ⌜ Served (found card settings tables line held) (lent chunk) (left settings) (left tables) (left line) r ⌝ }
 {
     let mut k = card;
     let mut h = held;

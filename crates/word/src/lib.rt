@@ -1,5 +1,6 @@
 // Words of 16 bits: as signed numbers, as counters, as times, and lent by the slice.
 ghost use mathlib.Core.Path.{_≡_};
+ghost use Prim.Native.Nat.{_≤_, min};
 ghost use lib.ListN.{getD, set};
 ghost use Rattle.word.specs.Word.{signedOf, grown, lasting};
 ghost use Rattle.word.specs.Table.{isEnd};
@@ -21,6 +22,13 @@ pub fn grow(count: u16) -> u16
     ensures { λ r. ⌜ r ≡ grown count ⌝ }
 {
     std::num::wrapping_add_u16(count, 1)
+}
+
+// The smaller of two.
+pub fn least(a: usize, b: usize) -> usize
+    ensures { λ r. ⌜ (r ≡ min a b) × (r ≤ a) × (r ≤ b) ⌝ }
+{
+    if a < b { a } else { b }
 }
 
 // A time in microseconds, as delays and countdowns have it.

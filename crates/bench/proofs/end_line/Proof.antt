@@ -9,7 +9,7 @@ least-requires : tie.Need-least-requires
 least-requires c κs = search needs
 
 slice-aggregate-answer : tie.Need-slice-aggregate-answer
-slice-aggregate-answer c = sym (length-take-le _ (c .before .before .before .before .before .before .args .line .now) (c .before .before .before .least .ensures))
+slice-aggregate-answer c = sym (length-take-le _ (c .before .before .before .before .before .before .args .line .now) (c .before .before .before .least .ensures .2))
 
 sub-answer : tie.Need-sub-answer
 sub-answer c = search needs
