@@ -136,6 +136,7 @@ fn stopped(card: Card) -> Turn {
 }
 
 // Where the answers end once there is room for one more: written, if they must be; still there where they cannot be written.
+// An answer has at most 16,394 bytes with its LF, so there is room for one up to place 49,142 of the 65,536.
 fn room_made(out: &[u8], end: usize) -> usize
     requires { ⌜ end ≤ 65536 ⌝ }
     ensures { λ r. ⌜ r ≤ end ⌝ }
