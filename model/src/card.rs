@@ -378,7 +378,7 @@ impl Channel {
     }
 
     /// One microsecond.
-    #[inline]
+    #[inline(always)]
     fn tick(&mut self) {
         match self.phase {
             Phase::Rest => {}
@@ -512,7 +512,7 @@ impl Card {
     }
 
     /// One tick, one microsecond, without an event.
-    #[inline]
+    #[inline(always)]
     pub fn tick(&mut self) {
         for channel in &mut self.channels {
             channel.tick();
