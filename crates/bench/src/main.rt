@@ -127,6 +127,7 @@ fn serve_chunk(
     }
 }
 
+// The answers cannot be written: the session ends.
 fn stopped(card: Card) -> Turn {
     Turn {
         card: card,
@@ -371,12 +372,13 @@ fn plot(settings: &[u16; 16960], card: Card, line: &[u8], out: &mut [u8]) -> Ans
     }
 }
 
+// 9B01, volts × 32768 in 8 digits, microseconds in 16.
 fn put_point(out: &mut [u8], p: Plotted) {
     digits::put4(out, 0, 0x9B01);
-    digits::put8(out, 4, bits(p.volts * 32768.0));
+    put8(out, 4, bits(p.volts * 32768.0));
     let micros = bits(p.micros);
-    digits::put8(out, 12, micros / 0x100000000);
-    digits::put8(out, 20, micros);
+    put8(out, 12, micros / 0x100000000);
+    put8(out, 20, micros);
 }
 
 // 1C, address, word: what the panel shows, as a kind and a value.
@@ -401,10 +403,19 @@ fn show(card: Card, line: &[u8], out: &mut [u8]) -> Answered
     }
 }
 
+// 9C, the kind in 2 digits, the value in 8.
 fn put_reading(out: &mut [u8], kind: usize, value: usize) {
     digits::put2(out, 0, 0x9C);
     digits::put2(out, 2, kind);
-    digits::put8(out, 4, value);
+    put8(out, 4, value);
+}
+
+// Eight digits: two words of four.
+fn put8(out: &mut [u8], at: usize, x: usize)
+    requires { ⌜ at ≤ 16393 ⌝ }
+{
+    digits::put4(out, at, x / 65536);
+    digits::put4(out, at + 4, x);
 }
 
 // ---- numbers

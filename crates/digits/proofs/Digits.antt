@@ -9,7 +9,7 @@ use borrow.Author.Tests.{ltb-true, ltb-false, le-leb, lt-leb}
 use lib.Dec.{ltb}
 use lib.ListN.{length, set, getD, take, drop, length-append, length-set, List·getD-eq-default}
 use lib.Seq.{set-out, sets, sets-eq, drop-cons, take-suc, take-all, take-at, length-take-le}
-use Rattle.digits.specs.Digits.{inside, isDigit, allDigits, byteAt, wordAt, wordsFrom, hex2, hex4, hex8, hexAll}
+use Rattle.digits.specs.Digits.{inside, isDigit, allDigits, byteAt, wordAt, wordsFrom, hex2, hex4, hexAll}
 
 -- ---- a byte among the digits
 
@@ -95,10 +95,6 @@ length-hex2 x = refl
 pub length-hex4 : (x : ℕ) → length (hex4 x) ≡ 4
 unfolding hex2 hex4
 length-hex4 x = refl
-
-pub length-hex8 : (x : ℕ) → length (hex8 x) ≡ 8
-unfolding hex2 hex4 hex8
-length-hex8 x = refl
 
 pub length-hexAll : (a : List ℕ) → length (hexAll a) ≡ 4 * length a
 unfolding hexAll

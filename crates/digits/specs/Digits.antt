@@ -50,10 +50,6 @@ hex2 x = digitOf (x / 16 % 16) ∷ digitOf (x % 16) ∷ []
 unfoldable pub hex4 : ℕ → List ℕ
 hex4 x = hex2 (x / 256) ++ hex2 x
 
--- '8 digits'
-unfoldable pub hex8 : ℕ → List ℕ
-hex8 x = hex4 (x / 65536) ++ hex4 x
-
 -- the digits of words, one after the other
 unfoldable pub hexAll : List ℕ → List ℕ
 hexAll [] = []

@@ -4,7 +4,7 @@ ghost use Prim.Native.Nat.{_<_};
 ghost use lib.ListN.{getD, set, take};
 ghost use lib.Seq.{sets};
 ghost use Rattle.word.specs.Lent.{lent, left};
-ghost use Rattle.digits.specs.Digits.{isDigit, valueOf, allDigits, byteAt, wordAt, wordsFrom, digitOf, hex2, hex4, hex8, hexAll};
+ghost use Rattle.digits.specs.Digits.{isDigit, valueOf, allDigits, byteAt, wordAt, wordsFrom, digitOf, hex2, hex4, hexAll};
 
 // ---- digits read
 
@@ -86,17 +86,6 @@ pub fn put4(out: &mut [u8], at: usize, x: usize)
     }
     put2(out, at, x / 256);
     put2(out, at + 2, x);
-}
-
-// Eight digits.
-pub fn put8(out: &mut [u8], at: usize, x: usize)
-    ensures { λ _. ⌜ left out ≡ sets (lent out) at (hex8 x) ⌝ }
-{
-    if out.len() <= at {
-        return;
-    }
-    put4(out, at, x / 65536);
-    put4(out, at + 4, x);
 }
 
 // The first n words, four digits each; all of them where there are fewer.

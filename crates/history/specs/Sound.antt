@@ -98,7 +98,8 @@ pub record Sound (st : State) : Type 0 where
   pub tables : Tables (st .tables)
   pub card : CardSound (st .card)
 
--- a reset makes it, of any lists of the card's lengths, as every call has them by type; a tick with any event, any ticks, any write and any history keep it
+-- a reset makes it, of any lists of the card's lengths, as every call has them by type; a tick with any event, any ticks, any write and
+-- any history keep it
 pub record Reachable : Type 0 where
   pub reset : (s l : List ℕ) → length s ≡ 16960 → length l ≡ 512 → Sound (resetOf s l)
   pub tick : (st : State) (event : ℕ) → Sound st → Sound (tickWith st event)
