@@ -1,6 +1,6 @@
--- The card: four channels, the level counts, the active level and its event; beside it the lent words.
+-- The card: four channels, the level counts, the active trigger and the pending one; beside it the lent words.
 use mathlib.Core.Path.{_≡_}
-use mathlib.Core.Bool.{cond}
+use mathlib.Core.Bool.{Bool, _||_, cond}
 use mathlib.Core.List.{List, [], _∷_}
 use Prim.Native.Nat.{ℕ}
 use lib.Dec.{ltb}
@@ -53,16 +53,16 @@ channelOf k c = cond (ltb c 4) (getD (k .channels) c noChannel) noChannel
 
 -- the card with another channel c, with another count, with other channels
 abbrev pub withChannel : Card → ℕ → Channel → Card
-withChannel k c ch = cond (ltb c 4) (record { channels = set (k .channels) c ch; counts = k .counts; level = k .level; event = k .event }) k
+withChannel k c ch = cond (ltb c 4) (record { channels = set (k .channels) c ch; counts = k .counts; active = k .active; pending = k .pending }) k
 
 abbrev pub countOf : Card → ℕ → ℕ
 countOf k level = cond (ltb level 32) (getD (k .counts) level 0) 0
 
 abbrev pub withCount : Card → ℕ → ℕ → Card
-withCount k level n = cond (ltb level 32) (record { channels = k .channels; counts = set (k .counts) level n; level = k .level; event = k .event }) k
+withCount k level n = cond (ltb level 32) (record { channels = k .channels; counts = set (k .counts) level n; active = k .active; pending = k .pending }) k
 
 abbrev pub withChannels : Card → List Channel → Card
-withChannels k chs = record { channels = chs; counts = k .counts; level = k .level; event = k .event }
+withChannels k chs = record { channels = chs; counts = k .counts; active = k .active; pending = k .pending }
 
 -- what happens on each channel, one after the other, over the loaded tables
 pub record All : Type 0 where
@@ -76,6 +76,10 @@ onAll f k l =
     let c : Side = f 2 (b .tables) (channelOf k 2) in
     let d : Side = f 3 (c .tables) (channelOf k 3) in
     record { channels = a .channel ∷ b .channel ∷ c .channel ∷ d .channel ∷ []; tables = d .tables }
+
+-- what is so of some channel: 'on whichever channel'
+abbrev pub onSome : (ℕ → Bool) → Bool
+onSome f = f 0 || f 1 || f 2 || f 3
 
 -- the four channels handed back, in a card that is else `k`, and the tables left
 abbrev pub LeavesAll : All → Card → Card → Lent → Type 0

@@ -1,4 +1,5 @@
 pub mod Card
+pub mod Active
 pub mod Trigger
 pub mod Tick
 pub mod Reset

@@ -7,6 +7,7 @@ use Rattle.map.specs.Addresses.{scaleAt}
 use Rattle.channel.specs.Channel.{resetChannel}
 use Rattle.card.specs.declared.Card.{Card}
 use Rattle.card.specs.Card.{State, state}
+use Rattle.card.specs.Active.{cause}
 
 -- 'scale factors 0x0100', of channel c
 abbrev pub scalesReset : ℕ → List ℕ → List ℕ
@@ -25,8 +26,8 @@ cardReset =
     record {
       channels = resetChannel ∷ resetChannel ∷ resetChannel ∷ resetChannel ∷ [];
       counts = replicate 32 0;
-      level = 0;
-      event = 0xFE;
+      active = cause 0 0xFE;
+      pending = cause 0 0xFE;
     }
 
 abbrev pub resetOf : List ℕ → List ℕ → State

@@ -8,16 +8,18 @@ use Rattle.slots.specs.declared.Holder.{Holder}
 use Rattle.slots.specs.declared.Holder.the-variants.{Level, Nobody}
 use Rattle.slots.specs.Slots.{holderOf}
 use Rattle.channel.specs.Channel.{word, triggered}
+use Rattle.card.specs.declared.Cause.{Cause}
 use Rattle.card.specs.declared.Card.{Card}
 use Rattle.card.specs.Card.{State, state, All, onAll, withChannels, countOf, withCount}
+use Rattle.card.specs.Active.{cause, showing}
 
 -- 'a trigger of level L adds 1 to L's count (65,535 goes round to 0)'
 abbrev pub counted : Card → ℕ → Card
 counted k level = withCount k level (grown (countOf k level))
 
--- 'sets 0x4210 to L and 0x4211 to the event (0xFE if manual)'
-abbrev pub showing : Card → ℕ → ℕ → Card
-showing k level event = record { channels = k .channels; counts = k .counts; level = level; event = event }
+-- a trigger keeps its level and its event (0xFE if manual) as pending, in the place of one that was
+abbrev pub keeping : Card → Cause → Card
+keeping k t = record { channels = k .channels; counts = k .counts; active = k .active; pending = t }
 
 -- 'on each channel, enabled or not, the countdown is set anew'
 abbrev pub struck : State → ℕ → All
@@ -25,7 +27,10 @@ struck st level = onAll (λ c l ch. triggered (st .settings) l c ch level) (st .
 
 unfoldable pub triggerOf : State → ℕ → ℕ → State
 triggerOf st level event =
-    state (showing (counted (withChannels (st .card) (struck st level .channels)) level) level event) (st .settings) (struck st level .tables)
+    state
+    (showing (keeping (counted (withChannels (st .card) (struck st level .channels)) level) (cause level event)))
+    (st .settings)
+    (struck st level .tables)
 
 -- 'an event other than 0xFE, received while 0x4200 is 1 and held by some slot of level L, is an accepted trigger of L'
 unfoldable pub acceptedOf : List ℕ → ℕ → Holder

@@ -9,16 +9,23 @@ use word::Samples;
 ghost use mathlib.Core.Path.{_≡_};
 ghost use Rattle.word.specs.Lent.{lent, left};
 ghost use Rattle.card.specs.Card.{before, Leaves, LeavesWhole, LeavesAll, noChannel, channelOf, withChannel, countOf, withCount};
-ghost use Rattle.card.specs.Trigger.{counted, struck, triggerOf, acceptedOf, eventOf};
+ghost use Rattle.card.specs.Active.{cause, someLoaded, showing};
+ghost use Rattle.card.specs.Trigger.{counted, keeping, struck, triggerOf, acceptedOf, eventOf};
 ghost use Rattle.card.specs.Tick.{advanced, tickWith, ticks};
 ghost use Rattle.card.specs.Reset.{settingsReset, cardReset, resetOf};
 
-// The level and the event are those shown in 0x4210 and 0x4211.
+// What causes a ramp: an accepted trigger's level, and its event, 0xFE if manual.
+pub struct Cause {
+    pub level: u16,
+    pub event: u16,
+}
+
+// 0x4210 and 0x4211 show the active cause. The pending one is the last trigger's; a load makes it the active one.
 pub struct Card {
     pub channels: [Channel; 4],
     pub counts: [u16; 32],
-    pub level: u16,
-    pub event: u16,
+    pub active: Cause,
+    pub pending: Cause,
 }
 
 // Settings, loaded tables and card after a reset.
@@ -51,7 +58,7 @@ pub fn run(settings: &[u16; 16960], tables: &mut [u16; 512], card: Card, n: u32)
     k
 }
 
-// An accepted trigger of a level: its count, every channel's countdown, then the level and event shown.
+// An accepted trigger of a level: its count, every channel's countdown, and the level and event, which show once a channel loads.
 pub fn trigger(
     settings: &[u16; 16960],
     tables: &mut [u16; 512],
@@ -61,10 +68,8 @@ pub fn trigger(
 ) -> Card
     ensures { λ r. ⌜ Leaves (triggerOf (before card settings tables) level event) r tables ⌝ }
 {
-    let mut k = count_trigger(strike(settings, tables, card, level), level);
-    k.level = level;
-    k.event = event;
-    k
+    let k = count_trigger(strike(settings, tables, card, level), level);
+    show(keep(k, level, event))
 }
 
 // Channel c, or an empty one where there is none.
@@ -107,7 +112,7 @@ pub fn with_count(card: Card, level: usize, n: u16) -> Card
     k
 }
 
-// Every channel one microsecond on.
+// Every channel one microsecond on; a load shows the pending trigger.
 fn advance(settings: &[u16; 16960], tables: &mut [u16; 512], card: Card) -> Card
     ensures { λ r. ⌜ Leaves (advanced (before card settings tables)) r tables ⌝ }
 {
@@ -116,12 +121,14 @@ fn advance(settings: &[u16; 16960], tables: &mut [u16; 512], card: Card) -> Card
     let c = channel::tick(settings, tables, 2, card.channels[2]);
     let d = channel::tick(settings, tables, 3, card.channels[3]);
     let counts = card.counts;
-    Card {
+    let active = card.active;
+    let pending = card.pending;
+    show(Card {
         channels: [a, b, c, d],
         counts: counts,
-        level: card.level,
-        event: card.event,
-    }
+        active: active,
+        pending: pending,
+    })
 }
 
 // Every channel's countdown is set anew for a level.
@@ -133,12 +140,65 @@ fn strike(settings: &[u16; 16960], tables: &mut [u16; 512], card: Card, level: u
     let c = channel::trigger(settings, tables, 2, card.channels[2], level);
     let d = channel::trigger(settings, tables, 3, card.channels[3], level);
     let counts = card.counts;
+    let active = card.active;
+    let pending = card.pending;
     Card {
         channels: [a, b, c, d],
         counts: counts,
-        level: card.level,
-        event: card.event,
+        active: active,
+        pending: pending,
     }
+}
+
+// A trigger's level and event, pending in the place of those before.
+fn keep(card: Card, level: u16, event: u16) -> Card
+    ensures { λ r. ⌜ r ≡ keeping card (cause level event) ⌝ }
+{
+    let channels = card.channels;
+    let counts = card.counts;
+    let active = card.active;
+    Card {
+        channels: channels,
+        counts: counts,
+        active: active,
+        pending: Cause {
+            level: level,
+            event: event,
+        },
+    }
+}
+
+// The pending cause is shown if some channel has just loaded.
+fn show(card: Card) -> Card
+    ensures { λ r. ⌜ r ≡ showing card ⌝ }
+{
+    if some_loaded(card) {
+        let channels = card.channels;
+        let counts = card.counts;
+        let pending = card.pending;
+        return Card {
+            channels: channels,
+            counts: counts,
+            active: pending,
+            pending: pending,
+        };
+    }
+    card
+}
+
+fn some_loaded(card: Card) -> bool
+    ensures { λ r. ⌜ r ≡ someLoaded card ⌝ }
+{
+    if channel::just_loaded(card.channels[0]) {
+        return true;
+    }
+    if channel::just_loaded(card.channels[1]) {
+        return true;
+    }
+    if channel::just_loaded(card.channels[2]) {
+        return true;
+    }
+    channel::just_loaded(card.channels[3])
 }
 
 // One more trigger of a level.
@@ -214,7 +274,13 @@ fn fresh() -> Card
     Card {
         channels: [ch, ch, ch, ch],
         counts: [0; 32],
-        level: 0,
-        event: 0xFE,
+        active: Cause {
+            level: 0,
+            event: 0xFE,
+        },
+        pending: Cause {
+            level: 0,
+            event: 0xFE,
+        },
     }
 }

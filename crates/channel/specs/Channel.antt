@@ -71,6 +71,21 @@ runsOf ch = going (rampOf (ch .phase))
 abbrev pub lead : ℕ
 lead = 10
 
+-- 'when the countdown is set at 10 or reaches 10': the one rule of when a channel loads, for the trigger, for the tick and for what
+-- 0x4210 shows
+abbrev pub loadsAt : ℕ → Bool
+loadsAt n = eqb n lead
+
+-- the microseconds to the start; 0 where no countdown is on its way
+abbrev pub toStart : Phase → ℕ
+toStart Rest = 0
+toStart (Counting n older) = n .0
+toStart (Running w) = 0
+
+-- of a channel that a trigger or a tick has just brought to a phase: it has loaded
+abbrev pub justLoaded : Phase → Bool
+justLoaded p = loadsAt (toStart p)
+
 -- n words of s, from `from` on, stored in l from `to` on
 unfoldable pub copied : ℕ → List ℕ → ℕ → List ℕ → ℕ → List ℕ
 copied zero s from l to = l
@@ -113,7 +128,7 @@ countTo m older s l c ch =
     let o : Moved = advance l (firstOf c) (ch .loaded) older (ch .shown) in
     cond (eqb m 0)
     (side (start s l c ch) l)
-    (cond (eqb m lead) (load s l c ch (ch .level)) (side (with ch (Counting (record { 0 = m }) (o .ramp)) (o .shown)) l))
+    (cond (loadsAt m) (load s l c ch (ch .level)) (side (with ch (Counting (record { 0 = m }) (o .ramp)) (o .shown)) l))
 
 unfoldable pub tickAt : Phase → List ℕ → List ℕ → ℕ → Channel → Side
 tickAt Rest s l c ch = side ch l
@@ -132,7 +147,7 @@ countdown s c level = max lead (word s (delayAt c level))
 -- set at 10 it loads at once; else it counts, with the older ramp still running
 unfoldable pub triggered : List ℕ → List ℕ → ℕ → Channel → ℕ → Side
 triggered s l c ch level =
-    cond (eqb (countdown s c level) lead)
+    cond (loadsAt (countdown s c level))
     (load s l c ch level)
     (side
     (record { phase = Counting (record { 0 = countdown s c level }) (rampOf (ch .phase)); level = level; loaded = ch .loaded; shown = ch .shown })

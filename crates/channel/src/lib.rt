@@ -7,7 +7,7 @@ ghost use mathlib.Core.Path.{_≡_};
 ghost use Prim.Native.Nat.{_+_, _*_, _-_};
 ghost use Rattle.word.specs.Lent.{lent, left};
 ghost use Rattle.channel.specs.Ramp.{enter, next, sampleAt, put, given, advance};
-ghost use Rattle.channel.specs.Channel.{word, firstOf, Leaves, with, movedOn, rampOf, phaseOf, runsOf, copied, loadedFor, load, start, countTo, tickOf, triggered, resetChannel};
+ghost use Rattle.channel.specs.Channel.{word, firstOf, Leaves, with, movedOn, rampOf, phaseOf, runsOf, justLoaded, copied, loadedFor, load, start, countTo, tickOf, triggered, resetChannel};
 
 // A sample's place in its table: the segment, and the samples left in it. None are left at the end point.
 pub struct Place {
@@ -108,6 +108,18 @@ pub fn runs(ch: Channel) -> bool
     match older_ramp(p) {
         Ramp::Still => false,
         Ramp::Going(_) => true,
+    }
+}
+
+// A channel that a trigger or a tick has just moved has loaded: its countdown stands at 10.
+pub fn just_loaded(ch: Channel) -> bool
+    ensures { λ r. ⌜ r ≡ justLoaded (ch .phase) ⌝ }
+{
+    let p = ch.phase;
+    match p {
+        Phase::Rest => false,
+        Phase::Counting(n, _) => n.0 == 10,
+        Phase::Running(_) => false,
     }
 }
 

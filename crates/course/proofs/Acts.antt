@@ -156,15 +156,15 @@ untimed-table c x (Elsewhere l ∷ ys) e h i f =
 untimed-table c x (Output v ∷ ys) e h i f = untimed-table c (act c x (Output v)) ys e h i f
 untimed-table c x (Clear ∷ ys) e h i f = untimed-table c (act c x Clear) ys e h i f
 
--- and its ramp and copy
+-- and its ramp, copy and pending level
 pub untimed-ramp : (c : ℕ) (x : Side) (ys : List Act) → ticksIn ys ≡ 0
-    → (run c x ys .channel .phase ≡ x .channel .phase) × (run c x ys .channel .loaded ≡ x .channel .loaded)
-untimed-ramp c x [] e = (refl, refl)
+    → (run c x ys .channel .phase ≡ x .channel .phase) × (run c x ys .channel .loaded ≡ x .channel .loaded) × (run c x ys .channel .level ≡ x .channel .level)
+untimed-ramp c x [] e = (refl, refl, refl)
 untimed-ramp c x (Tick s ∷ ys) e = absurd (omega arith)
 untimed-ramp c x (Elsewhere l ∷ ys) e = untimed-ramp c (act c x (Elsewhere l)) ys e
 untimed-ramp c x (Output v ∷ ys) e =
     let r = untimed-ramp c (act c x (Output v)) ys e in
-    (r .0 ∙ written-phase v (x .channel), r .1 ∙ written-loaded v (x .channel))
+    (r .0 ∙ written-phase v (x .channel), r .1 ∙ written-loaded v (x .channel), r .2 ∙ written-level v (x .channel))
 untimed-ramp c x (Clear ∷ ys) e = untimed-ramp c (act c x Clear) ys e
 
 -- ---- the acts before a tick, and the settings held on it

@@ -19,7 +19,7 @@ use Rattle.channel.specs.declared.Phase.{Phase}
 use Rattle.channel.specs.declared.Phase.the-variants.{Rest, Counting, Running}
 use Rattle.channel.specs.declared.Channel.{Channel}
 use Rattle.channel.specs.Ramp.{next, given, advance}
-use Rattle.channel.specs.Channel.{Side, side, word, firstOf, lead, load, rampOf, phaseOf, countTo, tickAt, tickOf, countdown, triggered}
+use Rattle.channel.specs.Channel.{Side, side, word, firstOf, lead, toStart, load, rampOf, phaseOf, countTo, tickAt, tickOf, countdown, triggered}
 use Rattle.card.specs.declared.Card.{Card}
 use Rattle.card.specs.Card.{State, channelOf, onAll}
 use Rattle.card.specs.Trigger.{triggerOf}
@@ -33,7 +33,7 @@ use Rattle.course.proofs.Walk.{placed-next}
 use Rattle.history.specs.History.{Act, Write, act, triggerBy}
 use Rattle.history.specs.Sound.{Sound, RampSound}
 use Rattle.history.specs.Triggers.{eventBy}
-use Rattle.history.specs.Countdowns.{toStart, justBefore, CountdownsSet, RampKept, stepped, GoesOn, OlderGoesOn}
+use Rattle.history.specs.Countdowns.{justBefore, CountdownsSet, RampKept, stepped, GoesOn, OlderGoesOn}
 use Rattle.history.specs.Demand3.{sideAt}
 use Rattle.history.proofs.Channels.{ramp-sound}
 use Rattle.history.proofs.Turns.{Turn}
@@ -42,7 +42,7 @@ use Rattle.history.proofs.Tracks.{TickTurn, tick-turn, tick-same, Trigg
 
 -- ---- the countdowns
 
-triggered-counts : (s l : List ℕ) (c : ℕ) (ch : Channel) (level : ℕ) → toStart (triggered s l c ch level .channel .phase) ≡ countdown s c level
+pub triggered-counts : (s l : List ℕ) (c : ℕ) (ch : Channel) (level : ℕ) → toStart (triggered s l c ch level .channel .phase) ≡ countdown s c level
 unfolding triggered load
 triggered-counts s l c ch level = go (eqb (countdown s c level) lead) refl
   where

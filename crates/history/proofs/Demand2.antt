@@ -7,9 +7,11 @@ use Rattle.history.specs.Demand2.{TicksAre, Demand2}
 use Rattle.history.proofs.Registers.{settings-are}
 use Rattle.history.proofs.Settings.{settings-kept}
 use Rattle.history.proofs.Counts.{counts-right}
-use Rattle.history.proofs.Triggers.{trigger-rule, active-right, image-right}
+use Rattle.history.proofs.Triggers.{trigger-rule, image-right}
 use Rattle.history.proofs.Story.{channels-right, at-rest}
 use Rattle.history.proofs.Countdowns.{countdowns-set, older-goes-on}
+use Rattle.history.proofs.Active.{active-right, never-shows, shown-on-time}
+use Rattle.history.proofs.Named.{loads-named}
 
 -- N TICKS ARE N ACTS
 pub ticks-are : TicksAre
@@ -27,6 +29,9 @@ demand2 =
       triggers = trigger-rule;
       countdowns = countdowns-set;
       active = active-right;
+      replaced = never-shows;
+      time = shown-on-time;
+      named = loads-named;
       image = image-right;
       rest = at-rest;
       channels = channels-right;

@@ -36,8 +36,8 @@ but-settings c x s h =
       loaded = refl;
       place = refl;
       counts = refl;
-      level = refl;
-      event = refl;
+      active = refl;
+      trigger = refl;
       tables = refl;
       settings = h;
     }
@@ -54,8 +54,8 @@ but-then c x y z p q =
       loaded = q .loaded ∙ p .loaded;
       place = q .place ∙ p .place;
       counts = q .counts ∙ p .counts;
-      level = q .level ∙ p .level;
-      event = q .event ∙ p .event;
+      active = q .active ∙ p .active;
+      trigger = q .trigger ∙ p .trigger;
       tables = q .tables ∙ p .tables;
       settings = λ a d. q .settings a d ∙ p .settings a d;
     }
@@ -75,8 +75,8 @@ module _ (c : ℕ) (x : State) where
         loaded = channel-either (x .card) c ch (λ y. y .loaded ≡ channelOf (x .card) c .loaded) r refl;
         place = channel-either (x .card) c ch (λ y. y .shown .place ≡ channelOf (x .card) c .shown .place) u refl;
         counts = channel-keeps (x .card) c ch (λ (k : Card). k .counts) refl;
-        level = channel-keeps (x .card) c ch (λ (k : Card). k .level) refl;
-        event = channel-keeps (x .card) c ch (λ (k : Card). k .event) refl;
+        active = channel-keeps (x .card) c ch (λ (k : Card). k .active) refl;
+        trigger = channel-keeps (x .card) c ch (λ (k : Card). k .pending) refl;
         tables = refl;
         settings = λ b d. refl;
       }

@@ -22,4 +22,7 @@ pub mod Counts
 pub mod Triggers
 pub mod Story
 pub mod Countdowns
+pub mod Loads
+pub mod Active
+pub mod Named
 pub mod Demand2

@@ -21,20 +21,22 @@ use Rattle.slots.proofs.Fills.{filled-length, filled-in}
 use Rattle.slots.proofs.Holders.{level-held}
 use Rattle.channel.specs.declared.Channel.{Channel}
 use Rattle.channel.specs.Channel.{Side, word, resetChannel, tickOf, triggered}
+use Rattle.card.specs.declared.Cause.{Cause}
 use Rattle.card.specs.declared.Card.{Card}
 use Rattle.card.specs.Card.{State, state, All, noChannel, channelOf, withChannel, countOf, withCount, withChannels, onAll}
-use Rattle.card.specs.Trigger.{struck, triggerOf, acceptedOf, onEvent, eventOf}
-use Rattle.card.specs.Tick.{advanced, tickWith, ticks}
+use Rattle.card.specs.Active.{cause, someLoaded}
+use Rattle.card.specs.Trigger.{counted, keeping, struck, triggerOf, acceptedOf, onEvent, eventOf}
+use Rattle.card.specs.Tick.{moved, advanced, tickWith, ticks}
 use Rattle.card.specs.Reset.{tablesReset, cardReset, resetOf}
 use Rattle.transfer.specs.declared.Effect.the-variants.{Keep, Output, Erase, Nothing}
 use Rattle.transfer.specs.Word.{effectOf, outputTo, overflowCleared, performOf}
 use Rattle.transfer.specs.Transfer.{processedOf, writeOf}
 use Rattle.history.specs.History.{Act, Tick, Write, Read, Reset, acts, Each, Words16}
-use Rattle.history.specs.Sound.{Tables, ChannelSound, Sound, Reachable}
+use Rattle.history.specs.Sound.{Tables, ChannelSound, CauseSound, Sound, Reachable}
 use Rattle.history.proofs.Addresses.{slot-register}
 use Rattle.history.proofs.Words.{Passed, set-word, stored, erased-words, reset-words}
 use Rattle.history.proofs.Channels.{SideSound, tick-sound, strike-sound}
-use Rattle.history.proofs.Cards.{channel-other, channel-either, count-channels, count-many}
+use Rattle.history.proofs.Cards.{channel-other, channel-either, count-keeps, count-channels, count-many}
 use Rattle.history.proofs.Writing.{write-by}
 
 -- ---- the four channels
@@ -88,12 +90,16 @@ count-small k level n h g j = go (ltb level 32)
     at true p = set-word (λ y. y < 65536) (k .counts) level n j (λ e. h) p
     at false p = p
 
-    go : (b : Bool) → countOf (cond b (record { channels = k .channels; counts = set (k .counts) level n; level = k .level; event = k .event }) k) j < 65536
+    go : (b : Bool) → countOf (cond b (record { channels = k .channels; counts = set (k .counts) level n; active = k .active; pending = k .pending }) k) j < 65536
     go true = at (ltb j 32) (g j)
     go false = g j
 
 grown-word : (n : ℕ) → grown n < 65536
 grown-word n = mod-lt (n + 1) (omega arith)
+
+either-sound : (b : Bool) {p a : Cause} → CauseSound p → CauseSound a → CauseSound (cond b p a)
+either-sound true p a = p
+either-sound false p a = a
 
 module _ (st : State) (h : Sound st) where
   advanced-sound : Sound (advanced st)
@@ -109,8 +115,8 @@ module _ (st : State) (h : Sound st) where
               channels = a .channels;
               many = h .card .many;
               counts = h .card .counts;
-              level = h .card .level;
-              event = h .card .event;
+              active = either-sound (someLoaded (withChannels (st .card) (moved st .channels))) (h .card .pending) (h .card .active);
+              pending = h .card .pending;
             };
       }
 
@@ -129,8 +135,10 @@ module _ (st : State) (h : Sound st) where
               channels = rw e (a .channels);
               many = count-many k level (grown (countOf k level)) ∙ h .card .many;
               counts = count-small k level (grown (countOf k level)) (grown-word (countOf k level)) (h .card .counts);
-              level = i;
-              event = j;
+              active =
+                  either-sound (someLoaded (keeping (counted k level) (cause level event))) (record { level = i; event = j })
+                  (rw (count-keeps k level (grown (countOf k level)) (λ (x : Card). x .active) refl) (h .card .active));
+              pending = record { level = i; event = j };
             };
       }
 
@@ -180,8 +188,8 @@ module _ (st : State) (h : Sound st) where
                   channels = all;
                   many = rw e (h .card .many);
                   counts = rw e (h .card .counts);
-                  level = rw e (h .card .level);
-                  event = rw e (h .card .event);
+                  active = rw e (h .card .active);
+                  pending = rw e (h .card .pending);
                 };
           }
       go false e = rw e h
@@ -197,21 +205,10 @@ module _ (st : State) (h : Sound st) where
               channels = rw (count-channels (st .card) level 0) (h .card .channels);
               many = count-many (st .card) level 0 ∙ h .card .many;
               counts = count-small (st .card) level 0 (omega arith) (h .card .counts);
-              level = go-level (ltb level 32);
-              event = go-event (ltb level 32);
+              active = rw (count-keeps (st .card) level 0 (λ (k : Card). k .active) refl) (h .card .active);
+              pending = rw (count-keeps (st .card) level 0 (λ (k : Card). k .pending) refl) (h .card .pending);
             };
       }
-    where
-      new : Card
-      new = record { channels = st .card .channels; counts = set (st .card .counts) level 0; level = st .card .level; event = st .card .event }
-
-      go-level : (b : Bool) → cond b new (st .card) .level < 32
-      go-level true = h .card .level
-      go-level false = h .card .level
-
-      go-event : (b : Bool) → cond b new (st .card) .event < 256
-      go-event true = h .card .event
-      go-event false = h .card .event
 
   output-sound : (ch : Channel) (v : ℕ) → v < 65536 → ChannelSound ch → ChannelSound (outputTo ch v)
   output-sound ch v i g =
@@ -271,8 +268,8 @@ reset-sound s l p q =
             channels = four-sound cardReset resetChannel resetChannel resetChannel resetChannel fresh fresh fresh fresh;
             many = refl;
             counts = λ j. counts j (ltb j 32) refl;
-            level = omega arith;
-            event = omega arith;
+            active = record { level = omega arith; event = omega arith };
+            pending = record { level = omega arith; event = omega arith };
           };
     }
   where

@@ -156,7 +156,7 @@ module _ (s l m : List ℕ) (c : ℕ) (ch : Channel) (same : SameTable m (firstO
   same-tick (Counting n older) h = rw (same-start, same-ramp older (h .ramp))
   same-tick (Running r) h = same-ramp (Going r) h
 
-four-fresh : (k : ℕ) → k < 4 → channelOf cardReset k ≡ resetChannel
+pub four-fresh : (k : ℕ) → k < 4 → channelOf cardReset k ≡ resetChannel
 unfolding cardReset
 four-fresh zero h = refl
 four-fresh (suc zero) h = refl

@@ -1,5 +1,5 @@
--- The triggers of a history are those of the paper's rule (`trigger-rule`); 0x4210 and 0x4211 show the last of them (`active-right`), and
--- the image shows who holds an event (`image-right`). Assumes nothing.
+-- The triggers of a history are those of the paper's rule (`trigger-rule`), and the image shows who holds an event (`image-right`). Assumes
+-- nothing.
 use mathlib.Core.Path.{_≡_, refl, sym, ap, _∙_}
 use mathlib.Core.Bool.{Bool, true, false, cond}
 use mathlib.Core.List.{List, [], _∷_}
@@ -13,23 +13,12 @@ use Rattle.slots.specs.declared.Holder.the-variants.{Level, Nobody}
 use Rattle.slots.specs.Slots.{levelOf, holderOf, imageAt}
 use Rattle.slots.proofs.Holders.{level-held, nobody-if, holder-level}
 use Rattle.channel.specs.Channel.{word}
-use Rattle.card.specs.declared.Card.{Card}
-use Rattle.card.specs.Card.{State, state, channelOf}
-use Rattle.card.specs.Trigger.{triggerOf, acceptedOf, onEvent}
-use Rattle.card.specs.Tick.{advanced}
-use Rattle.card.specs.Reset.{cardReset, resetOf}
-use Rattle.transfer.specs.Word.{outputTo, overflowCleared}
-use Rattle.transfer.specs.Transfer.{writeOf}
-use Rattle.history.specs.History.{Act, Tick, Write, Read, Reset, act, acts, readBack, wordsDone, manualAmong, triggerBy}
-use Rattle.history.specs.Effects.{Does, Keeps, Outputs, ClearsOverflow, ClearsCount, Erases, Idles, Triggers}
+use Rattle.card.specs.Card.{State}
+use Rattle.card.specs.Trigger.{acceptedOf}
+use Rattle.history.specs.History.{Act, Tick, Write, Read, Reset, readBack, wordsDone, manualAmong, triggerBy}
 use Rattle.history.specs.Sound.{Sound}
-use Rattle.history.specs.Triggers.{Holds, ByClock, ByHand, Accepted, TriggerRule, Active, active, activeAfter, lastActive, ActiveRight, ImageRight}
-use Rattle.history.proofs.Addresses.{clock-register, level-register, event-register, image-register}
-use Rattle.history.proofs.Cards.{channel-keeps, count-keeps}
-use Rattle.history.proofs.Effects.{passed-does}
-use Rattle.history.proofs.Writing.{write-by}
-use Rattle.history.proofs.Parts.{none-first}
-use Rattle.history.proofs.Manual.{manual-write}
+use Rattle.history.specs.Triggers.{Holds, ByClock, ByHand, Accepted, TriggerRule, ImageRight}
+use Rattle.history.proofs.Addresses.{clock-register, image-register}
 
 -- ---- the rule of clock events
 
@@ -94,65 +83,6 @@ only st Reset level e = let z : _≡_ {A = ℕ} 0 1 = cc in absurd (omega arith)
 -- THE TRIGGERS OF A HISTORY ARE THOSE OF THE RULE
 pub trigger-rule : TriggerRule
 trigger-rule = record { accepted = accepted; only = only }
-
--- ---- 0x4210 and 0x4211
-
-abbrev shown : Card → Active
-shown k = active (k .level) (k .event)
-
-trigger-active : (st : State) (l event : ℕ) → shown (triggerOf st l event .card) ≡ active l event
-unfolding triggerOf
-trigger-active st l event = refl
-
-advanced-active : (st : State) → shown (advanced st .card) ≡ shown (st .card)
-unfolding advanced
-advanced-active st = refl
-
-reset-shown : (s l : List ℕ) → shown (resetOf s l .card) ≡ active 0 0xFE
-unfolding cardReset
-reset-shown s l = refl
-
-word-active : (st : State) (a v : ℕ) (y : State) → (a ≡ 0x4202 → ⊥) → Does st a v y → shown (y .card) ≡ shown (st .card)
-word-active st a v y n (Keeps i e) = ap (λ (x : State). shown (x .card)) e
-word-active st a v y n (Outputs c h i f e) = ap (λ (x : State). shown (x .card)) e ∙ channel-keeps (st .card) c (outputTo (channelOf (st .card) c) v) shown refl
-word-active st a v y n (ClearsOverflow c h i e) = ap (λ (x : State). shown (x .card)) e ∙ channel-keeps (st .card) c (overflowCleared (channelOf (st .card) c)) shown refl
-word-active st a v y n (ClearsCount l h i e) = ap (λ (x : State). shown (x .card)) e ∙ count-keeps (st .card) l 0 shown refl
-word-active st a v y n (Erases i f e) = ap (λ (x : State). shown (x .card)) e
-word-active st a v y n (Idles i f e) = ap (λ (x : State). shown (x .card)) e
-word-active st a v y n (Triggers i f e) = absurd (n i)
-
-write-active : (st : State) (start count : ℕ) (ws : List ℕ) → manualAmong start (wordsDone st start count ws) ≡ Nobody
-    → shown (writeOf st start count ws .state .card) ≡ shown (st .card)
-write-active =
-    write-by (λ st a vs z. manualAmong a vs ≡ Nobody → shown (z .card) ≡ shown (st .card)) (λ st a q. refl)
-    (λ st a v vs z p r q. let y = none-first a v vs q in r (y .1) ∙ word-active st a v _ (y .0) (passed-does st a v p))
-
-act-active : (st : State) (x : Act) → shown (act st x .card) ≡ activeAfter (triggerBy st x) x (shown (st .card))
-unfolding advanced
-act-active st (Tick event) = go (acceptedOf (st .settings) event)
-  where
-    go : (r : Holder) → shown (onEvent r (advanced st) event .card) ≡ activeAfter r (Tick event) (shown (st .card))
-    go (Level l) = trigger-active (advanced st) l event
-    go Nobody = advanced-active st
-act-active st (Write start count ws) = go (triggerBy st (Write start count ws)) refl
-  where
-    go : (r : Holder) → triggerBy st (Write start count ws) ≡ r → shown (writeOf st start count ws .state .card) ≡ activeAfter r (Write start count ws) (shown (st .card))
-    go (Level l) e = ap (λ (x : State). shown (x .card)) (manual-write st start count ws l e) ∙ trigger-active st l 0xFE
-    go Nobody e = write-active st start count ws e
-act-active st (Read start count ws) = refl
-act-active st Reset = reset-shown (st .settings) (st .tables)
-
-acts-active : (st : State) (xs : List Act) (old : Active) → shown (st .card) ≡ old → shown (acts st xs .card) ≡ lastActive st xs old
-acts-active st [] old e = e
-acts-active st (x ∷ xs) old e = acts-active (act st x) xs (activeAfter (triggerBy st x) x old) (act-active st x ∙ ap (activeAfter (triggerBy st x) x) e)
-
--- 0x4210 AND 0x4211 SHOW THE LAST ACCEPTED TRIGGER
-pub active-right : ActiveRight
-unfolding ActiveRight
-active-right s l xs = record { level = rw level-register (ap (λ (a : Active). a .level) e); event = rw event-register (ap (λ (a : Active). a .event) e) }
-  where
-    e : shown (acts (resetOf s l) xs .card) ≡ lastActive (resetOf s l) xs (active 0 0xFE)
-    e = acts-active (resetOf s l) xs (active 0 0xFE) (reset-shown s l)
 
 -- ---- the event image
 

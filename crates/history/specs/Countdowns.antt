@@ -6,10 +6,9 @@ use Prim.Native.Nat.{ℕ, _<_}
 use Rattle.slots.specs.declared.Holder.the-variants.{Level, Nobody}
 use Rattle.channel.specs.declared.Moved.{Moved}
 use Rattle.channel.specs.declared.Way.{Way}
-use Rattle.channel.specs.declared.Phase.{Phase}
-use Rattle.channel.specs.declared.Phase.the-variants.{Rest, Counting, Running}
+use Rattle.channel.specs.declared.Phase.the-variants.{Running}
 use Rattle.channel.specs.Ramp.{advance}
-use Rattle.channel.specs.Channel.{firstOf, lead, rampOf, countdown}
+use Rattle.channel.specs.Channel.{firstOf, lead, toStart, rampOf, countdown}
 use Rattle.card.specs.Card.{State, channelOf}
 use Rattle.card.specs.Tick.{advanced}
 use Rattle.course.specs.Points.{SameTable}
@@ -17,12 +16,6 @@ use Rattle.history.specs.History.{Act, Tick, Write, Read, Reset, act, tr
 use Rattle.history.specs.Sound.{Sound}
 
 -- ---- the countdown
-
--- the microseconds to the start; 0 where no countdown is on its way
-abbrev pub toStart : Phase → ℕ
-toStart Rest = 0
-toStart (Counting n older) = n .0
-toStart (Running r) = 0
 
 -- the state that a trigger comes to: 'a tick first advances every channel, then takes its event'
 abbrev pub justBefore : State → Act → State

@@ -8,9 +8,10 @@ use Rattle.history.specs.History.{acts, idle}
 use Rattle.history.specs.Effects.{SettingsAre}
 use Rattle.history.specs.Settings.{SettingsKept}
 use Rattle.history.specs.Counts.{CountsRight}
-use Rattle.history.specs.Triggers.{TriggerRule, ActiveRight, ImageRight}
+use Rattle.history.specs.Triggers.{TriggerRule, ImageRight}
 use Rattle.history.specs.Story.{ChannelsRight, AtRest}
 use Rattle.history.specs.Countdowns.{CountdownsSet, OlderGoesOn}
+use Rattle.history.specs.Active.{ActiveRight, NeverShows, ShownOnTime, LoadsNamed}
 
 -- N ticks at once are N acts, so what holds of histories holds of them
 unfoldable pub TicksAre : Type 0
@@ -24,8 +25,11 @@ pub record Demand2 : Type 0 where
   pub counts : CountsRight
   pub triggers : TriggerRule
   pub countdowns : CountdownsSet
-  -- 0x4210 and 0x4211
+  -- 0x4210 and 0x4211: which trigger they show, when it shows, and that it is the one whose ramp is loaded
   pub active : ActiveRight
+  pub replaced : NeverShows
+  pub time : ShownOnTime
+  pub named : LoadsNamed
   -- 0x4100 to 0x41FF
   pub image : ImageRight
   -- A04, A30 to A34 and A39: what happens on the channel. When it happens is demand 3; before it nothing runs, and from a later trigger to

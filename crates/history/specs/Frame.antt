@@ -20,8 +20,8 @@ pub record But (c : ℕ) (x y : State) : Type 0 where
   pub loaded : channelOf (y .card) c .loaded ≡ channelOf (x .card) c .loaded
   pub place : channelOf (y .card) c .shown .place ≡ channelOf (x .card) c .shown .place
   pub counts : y .card .counts ≡ x .card .counts
-  pub level : y .card .level ≡ x .card .level
-  pub event : y .card .event ≡ x .card .event
+  pub active : y .card .active ≡ x .card .active
+  pub trigger : y .card .pending ≡ x .card .pending
   pub tables : y .tables ≡ x .tables
   pub settings : (a : ℕ) → (InBlock c a → ⊥) → word (y .settings) a ≡ word (x .settings) a
 

@@ -10,5 +10,6 @@ pub mod Settings
 pub mod Counts
 pub mod Story
 pub mod Countdowns
+pub mod Active
 pub mod Demand2
 pub mod Demand3

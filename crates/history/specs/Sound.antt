@@ -15,6 +15,7 @@ use Rattle.channel.specs.declared.Phase.{Phase}
 use Rattle.channel.specs.declared.Phase.the-variants.{Rest, Counting, Running}
 use Rattle.channel.specs.declared.Channel.{Channel}
 use Rattle.channel.specs.Channel.{word}
+use Rattle.card.specs.declared.Cause.{Cause}
 use Rattle.card.specs.declared.Card.{Card}
 use Rattle.card.specs.Card.{State, channelOf, countOf}
 use Rattle.card.specs.Tick.{tickWith, ticks}
@@ -85,13 +86,17 @@ pub record ChannelSound (ch : Channel) : Type 0 where
 
 -- ---- the card
 
+pub record CauseSound (x : Cause) : Type 0 where
+  pub level : x .level < 32
+  pub event : x .event < 256
+
 pub record CardSound (k : Card) : Type 0 where
   pub four : length (k .channels) ≡ 4
   pub channels : (c : ℕ) → ChannelSound (channelOf k c)
   pub many : length (k .counts) ≡ 32
   pub counts : (level : ℕ) → countOf k level < 65536
-  pub level : k .level < 32
-  pub event : k .event < 256
+  pub active : CauseSound (k .active)
+  pub pending : CauseSound (k .pending)
 
 pub record Sound (st : State) : Type 0 where
   pub settings : Words (st .settings)

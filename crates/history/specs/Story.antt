@@ -20,7 +20,7 @@ use Rattle.channel.specs.declared.Phase.{Phase}
 use Rattle.channel.specs.declared.Phase.the-variants.{Rest, Counting, Running}
 use Rattle.channel.specs.declared.Channel.{Channel}
 use Rattle.channel.specs.Ramp.{place, enter, next, sampleAt}
-use Rattle.channel.specs.Channel.{word, firstOf, lead, loadedFor, countdown}
+use Rattle.channel.specs.Channel.{word, firstOf, loadsAt, loadedFor, countdown}
 use Rattle.card.specs.Card.{State, channelOf}
 use Rattle.card.specs.Reset.{resetOf}
 use Rattle.history.specs.History.{Act, Tick, Write, Read, Reset, act, acts, readBack, wordsDone, triggerBy, Words16}
@@ -56,7 +56,7 @@ byStart s l c ch = cond (eqb (word s (enableAt c)) 1) (sample l c ch (enter l (f
 abbrev pub inPhase : Phase → List ℕ → List ℕ → ℕ → Channel → List Happening
 inPhase Rest s l c ch = []
 inPhase (Counting n older) s l c ch =
-    cond (eqb (n .0 - 1) 0) (byStart s l c ch) (cond (eqb (n .0 - 1) lead) (Load (loadedFor s c (ch .level)) ∷ []) (byRamp l c ch older))
+    cond (eqb (n .0 - 1) 0) (byStart s l c ch) (cond (loadsAt (n .0 - 1)) (Load (loadedFor s c (ch .level)) ∷ []) (byRamp l c ch older))
 inPhase (Running r) s l c ch = byRamp l c ch (Going r)
 
 abbrev pub byTick : List ℕ → List ℕ → ℕ → Channel → List Happening
@@ -66,7 +66,7 @@ byTick s l c ch = inPhase (ch .phase) s l c ch
 
 -- a countdown that is set at 10 loads at once
 abbrev pub byTrigger : Holder → List ℕ → ℕ → List Happening
-byTrigger (Level level) s c = cond (eqb (countdown s c level) lead) (Load (loadedFor s c level) ∷ []) []
+byTrigger (Level level) s c = cond (loadsAt (countdown s c level)) (Load (loadedFor s c level) ∷ []) []
 byTrigger Nobody s c = []
 
 -- a word done at address a, and words done from there on

@@ -1,4 +1,4 @@
--- The rule of accepted triggers, and what 0x4210, 0x4211 and the event image show.
+-- The rule of accepted triggers, and what the event image shows.
 use mathlib.Core.Path.{_≡_}
 use mathlib.Core.List.{List, [], _∷_}
 use Prim.Native.Nat.{ℕ, _+_, _<_}
@@ -44,42 +44,12 @@ pub record TriggerRule : Type 0 where
   pub accepted : (st : State) → Sound st → (x : Act) (level : ℕ) → Accepted st x level → triggerBy st x ≡ Level level
   pub only : (st : State) (x : Act) (level : ℕ) → triggerBy st x ≡ Level level → Accepted st x level
 
--- ---- 0x4210 and 0x4211
-
-pub record Active : Type 0 where
-  pub level : ℕ
-  pub event : ℕ
-
-abbrev pub active : ℕ → ℕ → Active
-active level event = record { level = level; event = event }
-
 -- 'the event (0xFE if manual)'
 abbrev pub eventBy : Act → ℕ
 eventBy (Tick event) = event
 eventBy (Write start count ws) = 0xFE
 eventBy (Read start count ws) = 0xFE
 eventBy Reset = 0xFE
-
--- a trigger of level L 'sets 0x4210 to L and 0x4211 to the event'; a reset sets 0 and 0xFE
-abbrev pub activeAfter : Holder → Act → Active → Active
-activeAfter (Level l) x old = active l (eventBy x)
-activeAfter Nobody (Tick event) old = old
-activeAfter Nobody (Write start count ws) old = old
-activeAfter Nobody (Read start count ws) old = old
-activeAfter Nobody Reset old = active 0 0xFE
-
--- of the last accepted trigger; `old` before the acts
-abbrev pub lastActive : State → List Act → Active → Active
-lastActive st [] old = old
-lastActive st (x ∷ xs) old = lastActive (act st x) xs (activeAfter (triggerBy st x) x old)
-
-pub record ActiveShown (st : State) (x : Active) : Type 0 where
-  pub level : readBack st 0x4210 ≡ x .level
-  pub event : readBack st 0x4211 ≡ x .event
-
--- after any history of a card that was reset
-unfoldable pub ActiveRight : Type 0
-ActiveRight = (s l : List ℕ) (xs : List Act) → ActiveShown (acts (resetOf s l) xs) (lastActive (resetOf s l) xs (active 0 0xFE))
 
 -- ---- the event image
 

@@ -173,8 +173,8 @@ readAt s k a (R.Slot l) = word s a
 readAt s k a (R.Image e) = imageOf s e
 readAt s k a R.Erase = 0
 readAt s k a R.Manual = 0
-readAt s k a R.ActiveLevel = k .level
-readAt s k a R.ActiveEvent = k .event
+readAt s k a R.ActiveLevel = k .active .level
+readAt s k a R.ActiveEvent = k .active .event
 readAt s k a (R.Count l) = countOf k l
 readAt s k a R.Unlisted = 0
 

@@ -456,8 +456,8 @@ fn read_word(settings: &[u16; 16960], card: Card, address: u16) -> u16
         Register::Status(c, f) => status_of(card::channel_of(card, c), f),
         Register::Overflow(c) => overflow_of(card::channel_of(card, c)),
         Register::Image(e) => slots::image(settings, e),
-        Register::ActiveLevel => card.level,
-        Register::ActiveEvent => card.event,
+        Register::ActiveLevel => card.active.level,
+        Register::ActiveEvent => card.active.event,
         Register::Count(level) => card::count_of(card, level),
         _ => 0,
     }

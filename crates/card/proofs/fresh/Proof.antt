@@ -5,12 +5,13 @@ use mathlib.Core.List.{[], _∷_}
 use lib.ListN.{replicate}
 use Rattle.channel.specs.declared.Channel.{Channel}
 use Rattle.card.specs.declared.Card.{Card}
+use Rattle.card.specs.Active.{cause}
 use Rattle.card.specs.Reset.{cardReset}
 use Rattle.card.proofs.fresh.Statement.{statement}
 use Rattle.card.proofs.fresh.Tie as tie
 
 abbrev cardOf : Channel → Card
-cardOf ch = record { channels = ch ∷ ch ∷ ch ∷ ch ∷ []; counts = replicate 32 0; level = 0; event = 0xFE }
+cardOf ch = record { channels = ch ∷ ch ∷ ch ∷ ch ∷ []; counts = replicate 32 0; active = cause 0 0xFE; pending = cause 0 0xFE }
 
 fresh-requires : tie.Need-fresh-requires
 fresh-requires c κs = search needs

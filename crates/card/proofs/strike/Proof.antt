@@ -33,8 +33,8 @@ trigger-requires-4 c κs = search needs
 
 returns : tie.Need-returns
 returns c =
-    let a = c .before .before .before .before .before .before .before .before .before .before .before .before .before .args in
-    let r = all-four (λ i l ch. triggered (a .settings .now) l i ch (a .level)) (a .t3) (record { channel = c .before .before .before .before .before .before .before .before .before .before .trigger .ensures .0; tables = c .before .before .before .before .before .before .before .before .before .before .trigger .ensures .1 }) (record { channel = c .before .before .before .before .before .before .before .trigger2 .ensures .0; tables = c .before .before .before .before .before .before .before .trigger2 .ensures .1 }) (record { channel = c .before .before .before .before .trigger3 .ensures .0; tables = c .before .before .before .before .trigger3 .ensures .1 }) (record { channel = c .before .trigger4 .ensures .0; tables = c .before .trigger4 .ensures .1 }) in
+    let a = c .before .before .before .before .before .before .before .before .before .before .before .before .before .before .before .args in
+    let r = all-four (λ i l ch. triggered (a .settings .now) l i ch (a .level)) (a .t3) (record { channel = c .before .before .before .before .before .before .before .before .before .before .before .before .trigger .ensures .0; tables = c .before .before .before .before .before .before .before .before .before .before .before .before .trigger .ensures .1 }) (record { channel = c .before .before .before .before .before .before .before .before .before .trigger2 .ensures .0; tables = c .before .before .before .before .before .before .before .before .before .trigger2 .ensures .1 }) (record { channel = c .before .before .before .before .before .before .trigger3 .ensures .0; tables = c .before .before .before .before .before .before .trigger3 .ensures .1 }) (record { channel = c .before .before .before .trigger4 .ensures .0; tables = c .before .before .before .trigger4 .ensures .1 }) in
     (ap (withChannels (a .t3)) (r .0), r .1)
 
 pub strike-spec : {M : Type 1} → statement M

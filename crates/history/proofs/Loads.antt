@@ -1,0 +1,169 @@
+-- When a channel loads: a tick takes one microsecond from its countdown, a trigger sets it, and it loads where that comes to 10. So what
+-- the card shows changes exactly where a load is told (`advanced-active`, `trigger-active`). Assumes nothing.
+use mathlib.Core.Path.{_≡_, refl, sym, ap, _∙_}
+use mathlib.Core.Bool.{Bool, true, false, _||_, cond}
+use mathlib.Core.List.{List, [], _∷_}
+use Prim.Native.Nat.{ℕ, zero, suc, _-_, _<_}
+use native.Mathlib.Omega.{arith}
+use lib.Dec.{ltb, eqb}
+use borrow.Author.Tests.{eqb-true}
+use Rattle.map.specs.Addresses.{enableAt}
+use Rattle.slots.specs.declared.Holder.the-variants.{Level}
+use Rattle.word.specs.Word.{grown, lasting}
+use Rattle.channel.specs.declared.Moved.{Moved}
+use Rattle.channel.specs.declared.Ramp.{Ramp}
+use Rattle.channel.specs.declared.Ramp.the-variants.{Still, Going}
+use Rattle.channel.specs.declared.Phase.{Phase}
+use Rattle.channel.specs.declared.Phase.the-variants.{Rest, Counting, Running}
+use Rattle.channel.specs.declared.Channel.{Channel}
+use Rattle.channel.specs.Ramp.{enter, next, given, advance}
+use Rattle.channel.specs.Channel.{word, with, movedOn, side, firstOf, lead, loadsAt, toStart, justLoaded, load, loadedFor, start, phaseOf, countTo, tickAt, countdown}
+use Rattle.card.specs.declared.Cause.{Cause}
+use Rattle.card.specs.declared.Card.{Card}
+use Rattle.card.specs.Card.{State, channelOf, withChannels, countOf, onSome}
+use Rattle.card.specs.Active.{cause}
+use Rattle.card.specs.Trigger.{counted, struck, triggerOf}
+use Rattle.card.specs.Tick.{advanced}
+use Rattle.history.specs.Story.{Happening, Load, sample, byRamp, byStart, inPhase, byTrigger}
+use Rattle.history.specs.Active.{loadAmong, inTick}
+use Rattle.history.proofs.Cards.{count-keeps}
+use Rattle.history.proofs.Tracks.{tick-turn, tick-same, trigger-turn, trigger-same}
+use Rattle.history.proofs.Countdowns.{triggered-counts}
+
+-- ---- some channel of four
+
+-- the same of each of them
+pub some-same : (f g : ℕ → Bool) → ((c : ℕ) → c < 4 → f c ≡ g c) → onSome f ≡ onSome g
+some-same f g e = rw (e 0 (omega arith), e 1 (omega arith), e 2 (omega arith), e 3 (omega arith))
+
+pub some-none : (f : ℕ → Bool) → ((c : ℕ) → c < 4 → f c ≡ false) → onSome f ≡ false
+some-none f e = some-same f (λ c. false) e
+
+pub some-one : (f : ℕ → Bool) (c : ℕ) → c < 4 → f c ≡ true → onSome f ≡ true
+some-one f zero h e = rw e
+some-one f (suc zero) h e = rw e (go (f 0))
+  where
+    go : (a : Bool) → a || true || f 2 || f 3 ≡ true
+    go true = refl
+    go false = refl
+some-one f (suc (suc zero)) h e = rw e (go (f 0 || f 1))
+  where
+    go : (a : Bool) → a || true || f 3 ≡ true
+    go true = refl
+    go false = refl
+some-one f (suc (suc (suc zero))) h e = rw e (go (f 0 || f 1 || f 2))
+  where
+    go : (a : Bool) → a || true ≡ true
+    go true = refl
+    go false = refl
+some-one f (suc (suc (suc (suc c)))) h e = absurd (omega arith)
+
+-- ---- a channel's tick
+
+module _ (s l : List ℕ) (c : ℕ) (ch : Channel) where
+  -- samples are no loads
+  pub ramp-loads : (r : Ramp) → loadAmong (byRamp l c ch r) ≡ false
+  ramp-loads Still = refl
+  ramp-loads (Going w) = go (ltb 1 (w .wait .0))
+    where
+      go : (b : Bool) → loadAmong (cond b [] (sample l c ch (next l (firstOf c) (w .place)))) ≡ false
+      go true = refl
+      go false = refl
+
+  pub start-loads : loadAmong (byStart s l c ch) ≡ false
+  start-loads = go (eqb (word s (enableAt c)) 1)
+    where
+      go : (b : Bool) → loadAmong (cond b (sample l c ch (enter l (firstOf c) 0)) []) ≡ false
+      go true = refl
+      go false = refl
+
+  -- A TICK LOADS WHERE THE COUNTDOWN REACHES 10
+  pub tick-loads : (p : Phase) → loadAmong (inPhase p s l c ch) ≡ loadsAt (toStart p - 1)
+  tick-loads Rest = refl
+  tick-loads (Counting n older) = go (eqb (n .0 - 1) 0) refl (loadsAt (n .0 - 1)) refl
+    where
+      none : eqb (n .0 - 1) 0 ≡ true → loadsAt (n .0 - 1) ≡ false
+      none e = rw (eqb-true (n .0 - 1) 0 e)
+
+      go : (a : Bool) → eqb (n .0 - 1) 0 ≡ a → (b : Bool) → loadsAt (n .0 - 1) ≡ b
+          → loadAmong (cond a (byStart s l c ch) (cond b (Load (loadedFor s c (ch .level)) ∷ []) (byRamp l c ch older))) ≡ b
+      go true e b f = start-loads ∙ sym (none e) ∙ f
+      go false e true f = refl
+      go false e false f = ramp-loads older
+  tick-loads (Running w) = ramp-loads (Going w)
+
+  ramp-counts : (r : Ramp) → toStart (phaseOf r) ≡ 0
+  ramp-counts Still = refl
+  ramp-counts (Going w) = refl
+
+  start-counts : toStart (start s l c ch .phase) ≡ 0
+  unfolding start
+  start-counts = go (eqb (word s (enableAt c)) 1) (given l (firstOf c) (ch .loaded) (lasting 1) (enter l (firstOf c) 0) (ch .shown))
+    where
+      go : (b : Bool) (m : Moved) → toStart (cond b (movedOn ch m) (with ch Rest (ch .shown)) .phase) ≡ 0
+      go true m = ramp-counts (m .ramp)
+      go false m = refl
+
+  -- A TICK TAKES ONE MICROSECOND FROM THE COUNTDOWN
+  pub tick-counts : (p : Phase) → ch .phase ≡ p → toStart (tickAt p s l c ch .channel .phase) ≡ toStart p - 1
+  unfolding tickAt countTo load
+  tick-counts Rest e = rw e
+  tick-counts (Counting n older) e = go (eqb (n .0 - 1) 0) refl (loadsAt (n .0 - 1)) refl
+    where
+      o : Moved
+      o = advance l (firstOf c) (ch .loaded) older (ch .shown)
+
+      go : (a : Bool) → eqb (n .0 - 1) 0 ≡ a → (b : Bool) → loadsAt (n .0 - 1) ≡ b
+          → toStart (cond a (side (start s l c ch) l) (cond b (load s l c ch (ch .level)) (side (with ch (Counting (record { 0 = n .0 - 1 }) (o .ramp)) (o .shown)) l)) .channel .phase)
+          ≡ n .0 - 1
+      go true e b f = start-counts ∙ sym (eqb-true (n .0 - 1) 0 e)
+      go false e true f = sym (eqb-true (n .0 - 1) lead f)
+      go false e false f = refl
+  tick-counts (Running w) e = ramp-counts (advance l (firstOf c) (ch .loaded) (Going w) (ch .shown) .ramp)
+
+-- ---- the card
+
+module _ (st : State) where
+  pub advanced-counts : (c : ℕ) → c < 4 → toStart (channelOf (advanced st .card) c .phase) ≡ toStart (channelOf (st .card) c .phase) - 1
+  advanced-counts c h =
+      ap (λ (ch : Channel). toStart (ch .phase)) (sym (tick-same st c (tick-turn st c h)))
+      ∙ tick-counts (st .settings) (tick-turn st c h .mid) c (channelOf (st .card) c) (channelOf (st .card) c .phase) refl
+
+  counting-told : (c : ℕ) → c < 4 → justLoaded (channelOf (advanced st .card) c .phase) ≡ loadAmong (inTick st c)
+  counting-told c h = ap loadsAt (advanced-counts c h) ∙ sym (tick-loads (st .settings) (st .tables) c (channelOf (st .card) c) (channelOf (st .card) c .phase))
+
+  -- A TICK SHOWS THE PENDING TRIGGER WHERE SOME CHANNEL LOADS BY COUNTING
+  pub advanced-active : advanced st .card .active ≡ cond (onSome (λ c. loadAmong (inTick st c))) (st .card .pending) (st .card .active)
+  unfolding advanced
+  advanced-active = ap (λ (b : Bool). cond b (st .card .pending) (st .card .active)) (some-same _ _ counting-told)
+
+  pub advanced-pending : advanced st .card .pending ≡ st .card .pending
+  unfolding advanced
+  advanced-pending = refl
+
+pub trigger-loads : (s : List ℕ) (c level : ℕ) → loadAmong (byTrigger (Level level) s c) ≡ loadsAt (countdown s c level)
+trigger-loads s c level = go (loadsAt (countdown s c level))
+  where
+    go : (b : Bool) → loadAmong (cond b (Load (loadedFor s c level) ∷ []) []) ≡ b
+    go true = refl
+    go false = refl
+
+module _ (st : State) (level event : ℕ) where
+  trigger-told : (c : ℕ) → c < 4 → justLoaded (channelOf (triggerOf st level event .card) c .phase) ≡ loadAmong (byTrigger (Level level) (st .settings) c)
+  trigger-told c h =
+      ap (λ (ch : Channel). justLoaded (ch .phase)) (sym (trigger-same st level event c (trigger-turn st level c h)))
+      ∙ ap loadsAt (triggered-counts (st .settings) _ c (channelOf (st .card) c) level)
+      ∙ sym (trigger-loads (st .settings) c level)
+
+  -- A TRIGGER SHOWS ITSELF WHERE SOME CHANNEL LOADS AT ONCE, AND IS KEPT
+  pub trigger-active : triggerOf st level event .card .active ≡ cond (onSome (λ c. loadAmong (byTrigger (Level level) (st .settings) c))) (cause level event) (st .card .active)
+  unfolding triggerOf
+  trigger-active =
+      let k : Card = withChannels (st .card) (struck st level .channels) in
+      ap (λ (b : Bool). cond b (cause level event) (counted k level .active)) (some-same _ _ trigger-told)
+      ∙ ap (λ (t : Cause). cond (onSome (λ c. loadAmong (byTrigger (Level level) (st .settings) c))) (cause level event) t)
+      (count-keeps k level (grown (countOf k level)) (λ (x : Card). x .active) refl)
+
+  pub trigger-pending : triggerOf st level event .card .pending ≡ cause level event
+  unfolding triggerOf
+  trigger-pending = refl

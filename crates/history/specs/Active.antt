@@ -1,0 +1,132 @@
+-- Demand 2 of 0x4210 and 0x4211, as document 02, One, has them: they 'shall change at the first load that follows a trigger, on whichever
+-- channel that comes first, to that trigger's level and event'.
+use mathlib.Core.Path.{_≡_}
+use mathlib.Core.Bool.{Bool, true, false, _||_, cond}
+use mathlib.Core.List.{List, [], _∷_}
+use Prim.Native.Nat.{ℕ, _-_, _<_, min}
+use lib.Dec.{leb}
+use Rattle.map.specs.Addresses.{delayAt}
+use Rattle.slots.specs.declared.Holder.{Holder}
+use Rattle.slots.specs.declared.Holder.the-variants.{Level, Nobody}
+use Rattle.channel.specs.Channel.{word, lead, loadedFor}
+use Rattle.card.specs.declared.Cause.{Cause}
+use Rattle.card.specs.Card.{State, channelOf, onSome}
+use Rattle.card.specs.Active.{cause}
+use Rattle.card.specs.Tick.{advanced}
+use Rattle.card.specs.Reset.{resetOf}
+use Rattle.history.specs.History.{Act, Tick, Write, Read, Reset, act, acts, readBack, triggerBy, Quiet, ticksIn}
+use Rattle.history.specs.Triggers.{eventBy}
+use Rattle.history.specs.Story.{Happening, Load, Sample, Output, Clear, Fresh, byTick, byTrigger}
+use Rattle.history.specs.Countdowns.{justBefore}
+
+-- ---- loads
+
+-- a load among what happens on a channel
+abbrev pub loadAmong : List Happening → Bool
+loadAmong [] = false
+loadAmong (Load ld ∷ hs) = true
+loadAmong (Sample p u ∷ hs) = loadAmong hs
+loadAmong (Output v ∷ hs) = loadAmong hs
+loadAmong (Clear ∷ hs) = loadAmong hs
+loadAmong (Fresh ∷ hs) = loadAmong hs
+
+-- what happens on channel c as a tick advances it, and at an act's trigger
+abbrev pub inTick : State → ℕ → List Happening
+inTick st c = byTick (st .settings) (st .tables) c (channelOf (st .card) c)
+
+abbrev pub atTrigger : State → Act → ℕ → List Happening
+atTrigger st x c = byTrigger (triggerBy st x) (st .settings) c
+
+-- some channel loads by counting: on a tick, before its event is taken
+abbrev pub loadsByCounting : State → Act → Bool
+loadsByCounting st (Tick event) = onSome (λ c. loadAmong (inTick st c))
+loadsByCounting st (Write start count ws) = false
+loadsByCounting st (Read start count ws) = false
+loadsByCounting st Reset = false
+
+-- some channel loads at the trigger itself
+abbrev pub loadsAtTrigger : State → Act → Bool
+loadsAtTrigger st x = onSome (λ c. loadAmong (atTrigger st x c))
+
+-- some channel loads in the acts
+abbrev pub loadsIn : State → List Act → Bool
+loadsIn st [] = false
+loadsIn st (x ∷ xs) = loadsByCounting st x || (loadsAtTrigger st x || loadsIn (act st x) xs)
+
+-- some channel loads after the trigger that x is: at the trigger itself, or in the acts xs that follow
+abbrev pub loadsAfter : State → Act → List Act → Bool
+loadsAfter st x xs = loadsAtTrigger st x || loadsIn (act st x) xs
+
+-- ---- after any history
+
+-- what 0x4210 and 0x4211 read
+abbrev pub activeIn : State → Cause
+activeIn st = cause (readBack st 0x4210) (readBack st 0x4211)
+
+-- after a reset: 0 and 0xFE
+abbrev pub atReset : Cause
+atReset = cause 0 0xFE
+
+-- what an act leaves of `old`: a trigger takes its place if some channel has loaded since, a reset always
+abbrev pub activeAfter : Holder → Act → Bool → Cause → Cause
+activeAfter (Level l) x loaded old = cond loaded (cause l (eventBy x)) old
+activeAfter Nobody (Tick event) loaded old = old
+activeAfter Nobody (Write start count ws) loaded old = old
+activeAfter Nobody (Read start count ws) loaded old = old
+activeAfter Nobody Reset loaded old = atReset
+
+-- the last accepted trigger after which some channel has loaded; `old` where there is none
+abbrev pub lastLoaded : State → List Act → Cause → Cause
+lastLoaded st [] old = old
+lastLoaded st (x ∷ xs) old = lastLoaded (act st x) xs (activeAfter (triggerBy st x) x (loadsAfter st x xs) old)
+
+-- of a card that was reset
+unfoldable pub ActiveRight : Type 0
+ActiveRight = (s l : List ℕ) (xs : List Act) → activeIn (acts (resetOf s l) xs) ≡ lastLoaded (resetOf s l) xs atReset
+
+-- ---- a trigger on its way
+
+-- In any state st the act x is an accepted trigger of a level; after it come the acts xs, no trigger accepted and no reset among them.
+abbrev pub Pending : State → Act → ℕ → List Act → Type 0
+Pending st x level xs = (triggerBy st x ≡ Level level) × Quiet (act st x) xs
+
+-- 'A trigger replaced before any channel loads never shows there.'
+pub record NeverShows : Type 0 where
+  -- until a channel loads: what was shown before it
+  pub meanwhile : (st : State) (x : Act) (level : ℕ) (xs : List Act) → Pending st x level xs → loadsAfter st x xs ≡ false
+      → activeIn (acts (act st x) xs) ≡ activeIn (justBefore st x)
+  -- a trigger y then takes its place, and no channel loads before it on its tick; from then on whatever acts ys come show the last trigger
+  -- from y on after which some channel has loaded, and where there is none what was shown before x
+  pub afterwards : (st : State) (x : Act) (level : ℕ) (xs : List Act) → Pending st x level xs → loadsAfter st x xs ≡ false
+      → (y : Act) (l : ℕ) → triggerBy (acts (act st x) xs) y ≡ Level l → loadsByCounting (acts (act st x) xs) y ≡ false → (ys : List Act)
+      → activeIn (acts (acts (act st x) xs) (y ∷ ys)) ≡ lastLoaded (acts (act st x) xs) (y ∷ ys) (activeIn (justBefore st x))
+
+-- the shortest of the four channels' delays for a level
+abbrev pub shortest : List ℕ → ℕ → ℕ
+shortest s level = min (min (word s (delayAt 0 level)) (word s (delayAt 1 level))) (min (word s (delayAt 2 level)) (word s (delayAt 3 level)))
+
+-- the tick of the first load after a trigger: 0, the trigger itself, where some channel's delay is 10 or less, else the tick (shortest
+-- delay − 10) after it
+abbrev pub firstLoad : List ℕ → ℕ → ℕ
+firstLoad s level = shortest s level - lead
+
+-- 'at the first load that follows a trigger'
+pub record ShownOnTime : Type 0 where
+  -- that tick is the first load's
+  pub loads : (st : State) (x : Act) (level : ℕ) (xs : List Act) → Pending st x level xs
+      → loadsAfter st x xs ≡ leb (firstLoad (act st x .settings) level) (ticksIn xs)
+  -- before it the words are what they were, from it on they are the trigger's
+  pub shows : (st : State) (x : Act) (level : ℕ) (xs : List Act) → Pending st x level xs
+      → activeIn (acts (act st x) xs) ≡ cond (leb (firstLoad (act st x .settings) level) (ticksIn xs)) (cause level (eventBy x)) (activeIn (justBefore st x))
+
+-- ---- the ramp that is loaded
+
+-- 'It names the ramp that is loaded': after any history of a card that was reset, whatever a channel loads, by counting or at a trigger, is
+-- table, scale factor and offset for the level that 0x4210 then shows
+pub record NamesTheLoaded (st : State) : Type 0 where
+  pub counting : (c : ℕ) → c < 4 → loadAmong (inTick st c) ≡ true → inTick st c ≡ Load (loadedFor (st .settings) c (readBack (advanced st) 0x4210)) ∷ []
+  pub trigger : (x : Act) (c : ℕ) → c < 4 → loadAmong (atTrigger st x c) ≡ true
+      → atTrigger st x c ≡ Load (loadedFor (st .settings) c (readBack (act st x) 0x4210)) ∷ []
+
+unfoldable pub LoadsNamed : Type 0
+LoadsNamed = (s l : List ℕ) (xs : List Act) → NamesTheLoaded (acts (resetOf s l) xs)
