@@ -229,6 +229,20 @@ mod tests {
     }
 
     #[test]
+    fn a_reset_forgets_a_pending_trigger() {
+        let delays = "0108E10032\n0118E10032\n0128E10032\n0138E10032\n";
+        let looks = "0242100001\n0242110001\n0242210001\n";
+        let later = format!("{looks}030064\n{looks}");
+        // Level 2 shows, level 1 is pending.
+        let given = answers(&format!(
+            "{delays}0142020002\n0142020001\n{looks}18\n{later}"
+        ));
+        let (before, after) = given.split_once("98\n").unwrap();
+        assert!(before.ends_with("820000010002\n8200000100FE\n820000010001\n"));
+        assert_eq!(after, answers(&later));
+    }
+
+    #[test]
     fn points_of_the_table_as_it_stands() {
         let table = "1100800006000000048000000200640000";
         for (point, answer) in [

@@ -16,7 +16,7 @@ pub const LOAD_AT: u16 = 10;
 /// Samples come at the start and every so many ticks.
 const SAMPLE_TICKS: u8 = 10;
 /// "Event 0xFE is null."
-const NULL_EVENT: u8 = 0xFE;
+pub const NULL_EVENT: u8 = 0xFE;
 /// The largest count a transfer may name.
 const MAX_COUNT: usize = 16_381;
 /// The scale word of factor one.
@@ -220,6 +220,32 @@ struct Ramp {
     wait: u8,
 }
 
+/// An accepted trigger: its level, and its event (0xFE if manual).
+#[derive(Clone, Copy, Debug, PartialEq, Eq)]
+pub struct Trigger {
+    pub level: u8,
+    pub event: u8,
+}
+
+/// What 0x4210 and 0x4211 show, and the trigger they are to show next.
+#[derive(Clone, Debug)]
+struct Active {
+    shown: Trigger,
+    /// The last trigger, until the first load that follows it. "A trigger
+    /// replaced before any channel loads never shows there."
+    pending: Option<Trigger>,
+}
+
+impl Active {
+    /// They "change at the first load that follows a trigger, on whichever
+    /// channel that comes first, to that trigger's level and event".
+    fn show(&mut self) {
+        if let Some(trigger) = self.pending.take() {
+            self.shown = trigger;
+        }
+    }
+}
+
 /// "A channel is at rest, counting (toward a load or a start, perhaps with an
 /// older ramp still running) or running."
 #[derive(Clone, Copy, Debug, PartialEq, Eq)]
@@ -339,6 +365,7 @@ impl Channel {
         };
         Look {
             countdown,
+            enabled: self.enable == 1,
             ramp_runs: self.ramp_runs(),
             overflows: self.overflows,
         }
@@ -346,7 +373,7 @@ impl Channel {
 
     /// Sets the countdown anew to the delay for the level, at least 10. An
     /// older ramp runs on until the load.
-    fn trigger(&mut self, level: u8) {
+    fn trigger(&mut self, level: u8, active: &mut Active) {
         let countdown = self.delays[usize::from(level)].max(LOAD_AT);
         let mut older = match self.phase {
             Phase::Rest => None,
@@ -354,7 +381,7 @@ impl Channel {
             Phase::Running(ramp) => Some(ramp),
         };
         if countdown == LOAD_AT {
-            self.load(level);
+            self.load(level, active);
             older = None;
         }
         self.phase = Phase::Counting {
@@ -364,8 +391,10 @@ impl Channel {
         };
     }
 
-    /// Copies the pending level's table, scale factor and offset.
-    fn load(&mut self, level: u8) {
+    /// Copies the pending level's table, scale factor and offset; the trigger
+    /// now shows.
+    fn load(&mut self, level: u8, active: &mut Active) {
+        active.show();
         let level = usize::from(level);
         self.loaded.table = self.ramp_map[level];
         let first = TABLE_WORDS * usize::from(self.loaded.table);
@@ -379,14 +408,14 @@ impl Channel {
 
     /// One microsecond.
     #[inline(always)]
-    fn tick(&mut self) {
+    fn tick(&mut self, active: &mut Active) {
         match self.phase {
             Phase::Rest => {}
             Phase::Counting {
                 countdown,
                 level,
                 older,
-            } => self.count(countdown - 1, level, older),
+            } => self.count(countdown - 1, level, older, active),
             Phase::Running(ramp) => {
                 self.phase = self.run(ramp).map_or(Phase::Rest, Phase::Running);
             }
@@ -395,12 +424,12 @@ impl Channel {
 
     /// The countdown has come to this number on this tick.
     #[inline]
-    fn count(&mut self, countdown: u16, level: u8, older: Option<Ramp>) {
+    fn count(&mut self, countdown: u16, level: u8, older: Option<Ramp>, active: &mut Active) {
         let older = match countdown {
             0 => return self.start(),
             // The load comes before the tick's sample: the old ramp gives none.
             LOAD_AT => {
-                self.load(level);
+                self.load(level, active);
                 None
             }
             _ => older.and_then(|ramp| self.run(ramp)),
@@ -466,6 +495,8 @@ impl Channel {
 pub struct Look {
     /// The ticks to its start, 0 when it does not count.
     pub countdown: u16,
+    /// Whether its waveform is enabled.
+    pub enabled: bool,
     /// Whether a ramp runs, be it an older one during a countdown.
     pub ramp_runs: bool,
     pub overflows: u16,
@@ -477,8 +508,7 @@ pub struct Card {
     channels: [Channel; CHANNELS],
     slots: [u8; SLOTS],
     clock_enable: u16,
-    active_level: u8,
-    active_event: u8,
+    active: Active,
     level_counts: [u16; LEVELS],
 }
 
@@ -489,8 +519,13 @@ impl Card {
             channels: std::array::from_fn(|_| Channel::new()),
             slots: [NULL_EVENT; SLOTS],
             clock_enable: 0,
-            active_level: 0,
-            active_event: NULL_EVENT,
+            active: Active {
+                shown: Trigger {
+                    level: 0,
+                    event: NULL_EVENT,
+                },
+                pending: None,
+            },
             level_counts: [0; LEVELS],
         }
     }
@@ -505,6 +540,16 @@ impl Card {
         std::array::from_fn(|channel| self.channels[channel].look())
     }
 
+    /// The trigger that 0x4210 and 0x4211 show.
+    pub fn shown(&self) -> Trigger {
+        self.active.shown
+    }
+
+    /// The last trigger, if no channel has loaded since.
+    pub fn pending(&self) -> Option<Trigger> {
+        self.active.pending
+    }
+
     /// The words of a table as they stand in the settings, if it is there.
     pub fn table(&self, channel: usize, table: usize) -> Option<&[u16]> {
         let tables = &self.channels.get(channel)?.tables;
@@ -515,7 +560,7 @@ impl Card {
     #[inline(always)]
     pub fn tick(&mut self) {
         for channel in &mut self.channels {
-            channel.tick();
+            channel.tick(&mut self.active);
         }
     }
 
@@ -536,7 +581,7 @@ impl Card {
     }
 
     /// The level some slot of which holds the event; none holds the null one.
-    fn level_of(&self, event: u8) -> Option<u8> {
+    pub fn level_of(&self, event: u8) -> Option<u8> {
         if event == NULL_EVENT {
             return None;
         }
@@ -548,10 +593,9 @@ impl Card {
     fn trigger(&mut self, level: u8, event: u8) {
         let count = &mut self.level_counts[usize::from(level)];
         *count = count.wrapping_add(1);
-        self.active_level = level;
-        self.active_event = event;
+        self.active.pending = Some(Trigger { level, event });
         for channel in &mut self.channels {
-            channel.trigger(level);
+            channel.trigger(level, &mut self.active);
         }
     }
 
@@ -633,8 +677,8 @@ impl Card {
             Region::TriggerMap => u16::from(self.slots[at.index]),
             Region::EventImage => self.image(at.index as u8),
             Region::ClockEnable => self.clock_enable,
-            Region::ActiveLevel => u16::from(self.active_level),
-            Region::ActiveEvent => u16::from(self.active_event),
+            Region::ActiveLevel => u16::from(self.active.shown.level),
+            Region::ActiveEvent => u16::from(self.active.shown.event),
             Region::LevelCounts => self.level_counts[at.index],
             Region::Erase | Region::Manual => unreachable!("write-only words are refused"),
         }

@@ -1,4 +1,5 @@
-//! The checked examples of the paper, its numbers, and its retriggers.
+//! The checked examples of the paper, its numbers, its retriggers, and the
+//! level shown.
 
 use super::*;
 
@@ -590,4 +591,134 @@ fn channels_keep_to_themselves() {
     assert_eq!(card.outputs(), [100, 101, 0, 0]);
     ticks(&mut card, 4);
     assert_eq!(card.outputs(), [100, 101, 102, 103]);
+}
+
+/// The four delays of a level.
+fn set_delays(card: &mut Card, level: u16, delays: [u16; CHANNELS]) {
+    for (channel, delay) in delays.into_iter().enumerate() {
+        set(card, ((channel as u16) << 12) + 0x8E0 + level, delay);
+    }
+}
+
+/// The active level and its event.
+fn active(card: &Card) -> (u16, u16) {
+    (get(card, 0x4210), get(card, 0x4211))
+}
+
+/// Level 1 has events 0x10 and 0x11, level 2 has event 0x20, and all eight
+/// delays are long: the first loads come on ticks 20 and 30.
+fn late() -> Card {
+    let mut card = bench();
+    set_delays(&mut card, 1, [500, 30, 65535, 31]);
+    set_delays(&mut card, 2, [40, 41, 500, 40]);
+    assert_eq!(write(&mut card, 0x4008, &[0x10, 0x11]), (Number::Done, 2));
+    set(&mut card, 0x4010, 0x20);
+    set(&mut card, 0x4200, 1);
+    card
+}
+
+#[test]
+fn the_level_shows_at_the_first_load_and_counts_at_the_trigger() {
+    let mut card = late();
+    card.event(0x10);
+    for _ in 0..20 {
+        assert_eq!((active(&card), get(&card, 0x4221)), ((0, 0xFE), 1));
+        card.tick();
+    }
+    // The loads of the other channels show nothing new.
+    for _ in 0..66_000 {
+        assert_eq!(active(&card), (1, 0x10));
+        card.tick();
+    }
+    assert_eq!(get(&card, 0x4221), 1);
+}
+
+#[test]
+fn a_load_on_any_channel_shows_the_level() {
+    // Channel 0 alone is enabled: loads of disabled channels count.
+    for channel in 0..CHANNELS {
+        for (delay, tick) in [(0, 0), (9, 0), (10, 0), (11, 1), (12, 2), (29, 19)] {
+            let mut card = late();
+            let mut delays = [500, 30, 65535, 31];
+            delays[channel] = delay;
+            set_delays(&mut card, 1, delays);
+            card.event(0x11);
+            for _ in 0..tick {
+                assert_eq!(active(&card), (0, 0xFE));
+                card.tick();
+            }
+            assert_eq!(active(&card), (1, 0x11), "{channel} {delay}");
+        }
+    }
+}
+
+#[test]
+fn a_trigger_replaced_before_any_load_never_shows() {
+    let mut card = late();
+    card.event(0x20);
+    ticks(&mut card, 29);
+    // The next tick would load.
+    manual(&mut card, 1);
+    ticks(&mut card, 10);
+    card.event(0x11);
+    for _ in 0..20 {
+        assert_eq!(active(&card), (0, 0xFE));
+        card.tick();
+    }
+    assert_eq!(active(&card), (1, 0x11));
+    assert_eq!((get(&card, 0x4221), get(&card, 0x4222)), (2, 1));
+}
+
+#[test]
+fn on_one_tick_a_load_shows_the_older_trigger_before_the_event() {
+    let mut card = late();
+    card.event(0x10);
+    ticks(&mut card, 19);
+    assert_eq!(active(&card), (0, 0xFE));
+    card.event(0x20);
+    for _ in 0..30 {
+        assert_eq!((active(&card), get(&card, 0x4222)), ((1, 0x10), 1));
+        card.tick();
+    }
+    assert_eq!(active(&card), (2, 0x20));
+    // A new trigger that loads at once shows at once.
+    let mut card = late();
+    set(&mut card, 0x38E2, 10);
+    card.event(0x10);
+    ticks(&mut card, 19);
+    assert_eq!(active(&card), (0, 0xFE));
+    card.event(0x20);
+    assert_eq!(active(&card), (2, 0x20));
+    assert_eq!((get(&card, 0x4221), get(&card, 0x4222)), (1, 1));
+}
+
+#[test]
+fn the_event_shown_is_the_one_that_triggered() {
+    let mut card = late();
+    card.event(0x10);
+    ticks(&mut card, 19);
+    set(&mut card, 0x4201, 1);
+    set(&mut card, 0x4008, 0x33);
+    set(&mut card, 0x4010, 0x10);
+    set(&mut card, 0x4200, 0);
+    assert_eq!(active(&card), (0, 0xFE));
+    card.tick();
+    assert_eq!(active(&card), (1, 0x10));
+    // By hand there is no event, whatever the level's slots hold.
+    manual(&mut card, 2);
+    ticks(&mut card, 29);
+    assert_eq!(active(&card), (1, 0x10));
+    card.tick();
+    assert_eq!(active(&card), (2, 0xFE));
+}
+
+#[test]
+fn delays_written_while_a_trigger_is_pending_wait_for_the_next() {
+    let mut card = late();
+    card.event(0x10);
+    set_delays(&mut card, 1, [0; CHANNELS]);
+    ticks(&mut card, 19);
+    assert_eq!(active(&card), (0, 0xFE));
+    card.tick();
+    assert_eq!(active(&card), (1, 0x10));
 }

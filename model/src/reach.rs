@@ -3,7 +3,7 @@
 use std::fmt;
 
 use crate::bench::Frame;
-use crate::card::{Card, Look, CHANNELS, LOAD_AT};
+use crate::card::{Card, Look, Trigger, CHANNELS, LOAD_AT, NULL_EVENT};
 use crate::line;
 use crate::program::Program;
 
@@ -11,14 +11,44 @@ const NO_FRAME: &str = "lines that are no frame";
 const SHOWN: &str = "plotted points shown";
 const NOT_SHOWN: &str = "plotted points not shown";
 const RESETS: &str = "resets while a ramp runs";
+const RESETS_PENDING: &str = "resets while a trigger is pending";
 const LOAD_AND_EVENT: &str = "ticks with a load by counting and an accepted event";
 const WHILE_RUNNING: &str = "triggers while a ramp runs";
 const WHILE_OLDER: &str = "triggers while counting with an older ramp";
-const REPLACING: &str = "triggers that replace one no channel has loaded";
 const OVERFLOWS: &str = "overflowed samples";
 const LONG_WAIT: &str = "sessions where a channel waits for a load for more than 10 ticks";
-const LONG_WAIT_OF_ALL: &str =
-    "sessions where every channel waits for a load for more than 10 ticks";
+const LONG_PENDING: &str =
+    "sessions where a trigger is pending, loaded by no channel, for more than 10 ticks";
+const REPLACING: &str = "triggers that replace one pending for a tick or more";
+const SHOWN_LATE: &str = "pending triggers shown by a load by counting";
+const SHOWN_BY_DISABLED: &str = "pending triggers shown by loads of disabled channels alone";
+const SHOWN_UNHELD: &str = "pending triggers shown while their level no longer holds their event";
+const SHOWN_AND_EVENT: &str =
+    "ticks whose load by counting shows a pending trigger and whose event triggers anew";
+const SHOWN_AND_PENDING: &str =
+    "ticks whose load by counting shows a pending trigger and whose event leaves another pending";
+const LEVEL_READS: &str = "reads of 0x4210 while a trigger of another level is pending";
+const EVENT_READS: &str = "reads of 0x4211 while a trigger of another event is pending";
+const COUNT_READS: &str = "reads of a level's count while a trigger of that level is pending";
+
+/// What sessions of both programs reach with ticks and triggers.
+const OF_BOTH: [&str; 15] = [
+    LOAD_AND_EVENT,
+    WHILE_RUNNING,
+    WHILE_OLDER,
+    OVERFLOWS,
+    LONG_WAIT,
+    LONG_PENDING,
+    REPLACING,
+    SHOWN_LATE,
+    SHOWN_BY_DISABLED,
+    SHOWN_UNHELD,
+    SHOWN_AND_EVENT,
+    SHOWN_AND_PENDING,
+    LEVEL_READS,
+    EVENT_READS,
+    COUNT_READS,
+];
 
 /// The kinds of panel readings, by their number in the answer.
 const READINGS: [&str; 6] = [
@@ -47,18 +77,9 @@ fn things(program: Program) -> Vec<String> {
     things.extend((0..=4).map(|number| number_name("reads", number)));
     if bench {
         things.extend(READINGS.map(reading_name));
-        things.extend([SHOWN, NOT_SHOWN, RESETS].map(String::from));
+        things.extend([SHOWN, NOT_SHOWN, RESETS, RESETS_PENDING].map(String::from));
     }
-    let of_both = [
-        LOAD_AND_EVENT,
-        WHILE_RUNNING,
-        WHILE_OLDER,
-        REPLACING,
-        OVERFLOWS,
-        LONG_WAIT,
-        LONG_WAIT_OF_ALL,
-    ];
-    things.extend(of_both.map(String::from));
+    things.extend(OF_BOTH.map(String::from));
     things
 }
 
@@ -124,7 +145,7 @@ struct Player<'a> {
     /// The ticks each channel has waited for its load since the last trigger.
     waited: [u32; CHANNELS],
     long_wait: bool,
-    long_wait_of_all: bool,
+    long_pending: bool,
 }
 
 impl<'a> Player<'a> {
@@ -134,15 +155,14 @@ impl<'a> Player<'a> {
             card: Card::reset(),
             waited: [0; CHANNELS],
             long_wait: false,
-            long_wait_of_all: false,
+            long_pending: false,
         }
     }
 
     /// Counts what is of the whole session.
     fn finish(self) {
         self.reach.add(LONG_WAIT, u64::from(self.long_wait));
-        self.reach
-            .add(LONG_WAIT_OF_ALL, u64::from(self.long_wait_of_all));
+        self.reach.add(LONG_PENDING, u64::from(self.long_pending));
     }
 
     /// Ticks are played singly, all other lines through the program.
@@ -166,6 +186,7 @@ impl<'a> Player<'a> {
     /// A tick; whether a load by counting came on it.
     fn tick(&mut self) -> bool {
         let before = self.card.looks();
+        let pending = self.card.pending();
         self.card.tick();
         let mut overflowed = 0;
         for (channel, after) in self.card.looks().iter().enumerate() {
@@ -178,16 +199,35 @@ impl<'a> Player<'a> {
             self.reach.add(OVERFLOWS, overflowed);
         }
         self.long_wait |= self.waited.iter().any(|&ticks| ticks > LONG);
-        self.long_wait_of_all |= self.waited.iter().all(|&ticks| ticks > LONG);
-        before.iter().any(|look| look.countdown == LOAD_AT + 1)
+        self.long_pending |= self.waited.iter().all(|&ticks| ticks > LONG);
+        if let (Some(trigger), None) = (pending, self.card.pending()) {
+            self.shown(trigger, before);
+        }
+        before.iter().any(loads_next)
+    }
+
+    /// A load by counting has shown a pending trigger; the looks are those
+    /// before its tick.
+    fn shown(&mut self, trigger: Trigger, looks: [Look; CHANNELS]) {
+        let disabled = looks.iter().all(|look| !loads_next(look) || !look.enabled);
+        let held = self.card.level_of(trigger.event) == Some(trigger.level);
+        let unheld = trigger.event != NULL_EVENT && !held;
+        self.reach.add(SHOWN_LATE, 1);
+        self.reach.add(SHOWN_BY_DISABLED, u64::from(disabled));
+        self.reach.add(SHOWN_UNHELD, u64::from(unheld));
     }
 
     fn event(&mut self, event: u8) {
+        let pending = self.card.pending().is_some();
         let loaded = self.tick();
+        let shown = pending && self.card.pending().is_none();
         let looks = self.card.looks();
         if self.card.receive(event) {
             self.triggered(looks);
+            let again = shown && self.card.pending().is_some();
             self.reach.add(LOAD_AND_EVENT, u64::from(loaded));
+            self.reach.add(SHOWN_AND_EVENT, u64::from(shown));
+            self.reach.add(SHOWN_AND_PENDING, u64::from(again));
         }
     }
 
@@ -197,9 +237,9 @@ impl<'a> Player<'a> {
         let older = looks
             .iter()
             .any(|look| look.ramp_runs && look.countdown > 0);
-        let replaced = looks.iter().all(|look| look.countdown > LOAD_AT);
+        let waited = is_pending(looks) && self.waited.iter().all(|&ticks| ticks > 0);
         self.reach.add(WHILE_RUNNING, u64::from(runs));
-        self.reach.add(REPLACING, u64::from(replaced));
+        self.reach.add(REPLACING, u64::from(waited));
         self.reach.add(WHILE_OLDER, u64::from(older));
         self.waited = [0; CHANNELS];
     }
@@ -212,17 +252,27 @@ impl<'a> Player<'a> {
         program
             .answer(&mut self.card, line, &mut answer)
             .expect("a vector takes every answer");
-        let byte = |index: usize| line::field(&answer[2 * index..2 * index + 2]).unwrap() as u8;
-        if frame.is_none() {
+        let Some(frame) = frame else {
             return self.reach.add(NO_FRAME, 1);
-        }
+        };
+        let byte = |index: usize| line::field(&answer[2 * index..2 * index + 2]).unwrap() as u8;
         // An answer's first byte is the frame's with the highest bit set.
         let kind = byte(0) - 0x80;
         self.reach.add(&frame_name(kind), 1);
         match kind {
-            0x01 | 0x11 => self.reach.add(&number_name("writes", byte(1)), 1),
-            0x02 | 0x12 => self.reach.add(&number_name("reads", byte(1)), 1),
-            0x18 if looks.iter().any(|look| look.ramp_runs) => self.reach.add(RESETS, 1),
+            0x01 | 0x11 => {
+                self.reach.add(&number_name("writes", byte(1)), 1);
+                if start(&frame) == Some(0x4202) && byte(3) > 0 {
+                    self.triggered(looks);
+                }
+            }
+            0x02 | 0x12 => {
+                self.reach.add(&number_name("reads", byte(1)), 1);
+                if let Some(start) = start(&frame).filter(|_| byte(3) > 0) {
+                    self.seen(start);
+                }
+            }
+            0x18 => self.was_reset(looks),
             0x1B => self.reach.add([NOT_SHOWN, SHOWN][usize::from(byte(1))], 1),
             0x1C => {
                 let reading = READINGS[usize::from(byte(1))];
@@ -230,18 +280,50 @@ impl<'a> Player<'a> {
             }
             _ => {}
         }
-        if frame.is_some_and(|frame| is_manual(&frame)) && byte(3) > 0 {
-            self.triggered(looks);
+    }
+
+    /// The word at this address was read.
+    fn seen(&mut self, address: u16) {
+        let shown = self.card.shown();
+        let Some(pending) = self.card.pending() else {
+            return;
+        };
+        if address == 0x4220 + u16::from(pending.level) {
+            self.reach.add(COUNT_READS, 1);
         }
+        match address {
+            0x4210 if pending.level != shown.level => self.reach.add(LEVEL_READS, 1),
+            0x4211 if pending.event != shown.event => self.reach.add(EVENT_READS, 1),
+            _ => {}
+        }
+    }
+
+    /// The card was reset; the looks are those just before.
+    fn was_reset(&mut self, looks: [Look; CHANNELS]) {
+        let runs = looks.iter().any(|look| look.ramp_runs);
+        self.reach.add(RESETS, u64::from(runs));
+        self.reach.add(RESETS_PENDING, u64::from(is_pending(looks)));
     }
 }
 
-/// Whether the frame writes the manual trigger; one word of it can be done.
-fn is_manual(frame: &Frame) -> bool {
-    matches!(
-        frame,
-        Frame::Line(line::Frame::Write { start: 0x4202, .. }) | Frame::Write { start: 0x4202, .. }
-    )
+/// Whether the channel loads on the next tick.
+fn loads_next(look: &Look) -> bool {
+    look.countdown == LOAD_AT + 1
+}
+
+/// Whether no channel has loaded since the last trigger.
+fn is_pending(looks: [Look; CHANNELS]) -> bool {
+    looks.iter().all(|look| look.countdown > LOAD_AT)
+}
+
+/// The start of a transfer.
+fn start(frame: &Frame) -> Option<u16> {
+    match *frame {
+        Frame::Line(line::Frame::Write { start, .. } | line::Frame::Read { start, .. })
+        | Frame::Write { start, .. }
+        | Frame::Read { start, .. } => Some(start),
+        _ => None,
+    }
 }
 
 #[cfg(test)]
@@ -308,6 +390,68 @@ mod tests {
         }
     }
 
+    /// Levels 1 and 2, events 0x10 and 0x20: channel 0 loads on tick 40 and the
+    /// others on tick 50. Every other level loads at once.
+    const LATE: &str = "0108E100320032\n0118E1003C003C\n0128E1003C003C\n0138E1003C003C\n\
+        0140080010\n0140100020\n0140180030\n0142000001\n";
+
+    #[test]
+    fn pending_triggers_shown() {
+        for (frames, late, disabled, unheld) in [
+            ("0410\n030027\n", 0, 0, 0),
+            ("0410\n030028\n", 1, 1, 0),
+            ("0142020001\n030100\n", 1, 1, 0),
+            ("0430\n030100\n", 0, 0, 0),
+            ("010A000001\n0410\n030028\n", 1, 0, 0),
+            ("0410\n030027\n0142010001\n030001\n", 1, 1, 1),
+            ("0142020001\n0142010001\n030028\n", 1, 1, 0),
+        ] {
+            let session = format!("{LATE}{frames}");
+            assert_eq!(count(&session, SHOWN_LATE), late, "{frames}");
+            assert_eq!(count(&session, SHOWN_BY_DISABLED), disabled, "{frames}");
+            assert_eq!(count(&session, SHOWN_UNHELD), unheld, "{frames}");
+        }
+    }
+
+    #[test]
+    fn pending_triggers_and_events() {
+        for (frames, shown, pending, replaced) in [
+            ("0410\n030026\n0420\n", 0, 0, 1),
+            ("0410\n030027\n0420\n", 1, 1, 0),
+            ("0410\n030027\n0430\n", 1, 0, 0),
+            ("0410\n030028\n0420\n", 0, 0, 0),
+            ("0410\n030027\n0440\n", 0, 0, 0),
+            ("0410\n0142020002\n", 0, 0, 0),
+        ] {
+            let session = format!("{LATE}{frames}");
+            assert_eq!(count(&session, SHOWN_AND_EVENT), shown, "{frames}");
+            assert_eq!(count(&session, SHOWN_AND_PENDING), pending, "{frames}");
+            assert_eq!(count(&session, REPLACING), replaced, "{frames}");
+        }
+    }
+
+    #[test]
+    fn reads_and_resets_while_a_trigger_is_pending() {
+        let reads = "0242100002\n124211000100025555\n0242100000\n0242210001\n0142210000\n";
+        for (frames, level, event, counts) in [
+            ("", 0, 0, 0),
+            ("0410\n", 1, 1, 1),
+            ("0410\n030028\n", 0, 0, 0),
+            ("0142020001\n", 1, 0, 1),
+            ("0142020002\n", 1, 0, 0),
+            ("0410\n030028\n0142020001\n", 0, 1, 1),
+        ] {
+            let session = format!("{LATE}{frames}{reads}");
+            assert_eq!(count(&session, LEVEL_READS), level, "{frames}");
+            assert_eq!(count(&session, EVENT_READS), event, "{frames}");
+            assert_eq!(count(&session, COUNT_READS), counts, "{frames}");
+        }
+        for (ticks, resets) in [("27", 1), ("28", 0)] {
+            let session = format!("{LATE}0410\n0300{ticks}\n18\n18\n");
+            assert_eq!(count(&session, RESETS_PENDING), resets, "{ticks}");
+        }
+    }
+
     #[test]
     fn waits_and_overflows() {
         assert_eq!(count(RUNNING, LONG_WAIT), 0);
@@ -315,9 +459,9 @@ mod tests {
         assert_eq!(count(&session, LONG_WAIT), 0);
         let session = format!("{RUNNING}0142020002\n03000B\n");
         assert_eq!(count(&session, LONG_WAIT), 1);
-        assert_eq!(count(&session, LONG_WAIT_OF_ALL), 0);
+        assert_eq!(count(&session, LONG_PENDING), 0);
         let session = format!("0118E20032\n0128E20032\n0138E20032\n{session}");
-        assert_eq!(count(&session, LONG_WAIT_OF_ALL), 1);
+        assert_eq!(count(&session, LONG_PENDING), 1);
         assert_eq!(count(&session, REPLACING), 0);
         assert_eq!(count(&format!("{session}0142020001\n"), REPLACING), 1);
         let full = "0108610200\n0108410001\n0108010001\n0100807FFF00037FFF0000\n010A000001\n";

@@ -120,11 +120,12 @@ fn session(program: Program, seed: u64, index: u64) -> Vec<u8> {
 type Step = (u16, fn(&mut Session));
 
 /// The kinds of steps a session of the line program is made of.
-const STEPS: [Step; 25] = [
+const STEPS: [Step; 26] = [
     (26, Session::some_ticks),
     (8, Session::trigger),
     (12, Session::awkward_moment),
     (4, Session::meet_a_sample),
+    (4, Session::wait_for_the_first_load),
     (12, Session::change_setting),
     (5, Session::write_output),
     (3, Session::clear_count),
@@ -294,6 +295,10 @@ impl Session {
                 self.set_up_channel(channel << 12);
             }
         }
+        if self.random.percent(30) {
+            let level = self.level();
+            self.delay_every_channel(level);
+        }
         self.fill_slots();
         self.write(0x4200, &[1]);
     }
@@ -355,6 +360,21 @@ impl Session {
     fn set_delay(&mut self, base: u16, level: u16, delay: u16) {
         self.delays[usize::from(base >> 12)][usize::from(level)] = delay;
         self.write(base + 0x8E0 + level, &[delay]);
+    }
+
+    /// Lets every load of the level come late; the tick of the first one.
+    fn delay_every_channel(&mut self, level: u16) -> u16 {
+        let latest = if self.random.percent(10) { 9999 } else { 70 };
+        let mut first = u16::MAX;
+        for channel in 0..4 {
+            let mut delay = self.delays[usize::from(channel)][usize::from(level)];
+            if delay < 22 {
+                delay = self.random.within(22, latest);
+                self.set_delay(channel << 12, level, delay);
+            }
+            first = first.min(delay);
+        }
+        first - 10
     }
 
     fn scale(&mut self) -> u16 {
@@ -612,6 +632,35 @@ impl Session {
         self.look_around(base);
     }
 
+    /// Triggers a level whose loads all come late, does something on a tick
+    /// before, of or after the first load, and looks at the level shown.
+    fn wait_for_the_first_load(&mut self) {
+        let level = self.level();
+        let load = self.delay_every_channel(level);
+        self.trigger_level(level);
+        let erased = self.random.percent(30);
+        if erased {
+            self.write(0x4201, &[1]);
+        }
+        let early = self.random.within(1, load);
+        let tick = self.random.pick(&[early, load, load, load + 1]);
+        self.run(tick - 1);
+        self.read_active();
+        let other = self.level();
+        if self.random.percent(60) {
+            self.trigger_level(other);
+        } else {
+            self.act_at_the_moment(other);
+        }
+        self.read_active();
+        let ticks = self.random.pick(&[1, 9, 10, 20, load]);
+        self.run(ticks);
+        self.read_active();
+        if erased {
+            self.fill_slots();
+        }
+    }
+
     fn act_at_the_moment(&mut self, level: u16) {
         match self.random.below(5) {
             0 | 1 => self.trigger_level(level),
@@ -624,10 +673,10 @@ impl Session {
     /// Reads some words of a channel, then ticks on and looks again.
     fn look_around(&mut self, base: u16) {
         for _ in 0..self.random.below(3) {
-            let word = self
-                .random
-                .pick(&[0xA30, 0xA31, 0xA32, 0xA33, 0xA34, 0xA39]);
-            self.read(base + word, 1);
+            let status = base + 0xA30 + self.random.below(5);
+            let words = [status, status, status, base + 0xA39, 0x4210, 0x4211];
+            let word = self.random.pick(&words);
+            self.read(word, 1);
         }
         let ticks = self.random.pick(&[1, 1, 9, 10, 10, 11, 19, 20, 50]);
         self.run(ticks);
@@ -698,6 +747,16 @@ impl Session {
         let start = self.random.pick(&words);
         let count = if self.random.percent(90) { 1 } else { 2 };
         self.read(start, count);
+    }
+
+    /// The active level, its event and the count of some level.
+    fn read_active(&mut self) {
+        let count = 0x4220 + self.level();
+        for (word, chance) in [(0x4210, 70), (0x4211, 70), (count, 30)] {
+            if self.random.percent(chance) {
+                self.read(word, 1);
+            }
+        }
     }
 
     fn read_anywhere(&mut self) {

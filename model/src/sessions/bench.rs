@@ -17,7 +17,7 @@ pub(super) const STEPS: [Step; 16] = [
     (2, Session::count_beside_the_slice),
     (5, Session::read_long),
     (3, Session::reset_in_mid_ramp),
-    (3, Session::wait_on_every_channel),
+    (3, Session::wait_for_the_first_load),
     (5, Session::plot_a_new_table),
     (6, Session::plot_anywhere),
     (8, Session::show_a_region),
@@ -199,8 +199,8 @@ impl Session {
 
 /// Resets, plotted points and panel readings.
 impl Session {
-    /// A ramp of some samples on one channel, a reset on one of its ticks or
-    /// near them, and looks at what is left.
+    /// A ramp of some samples on one channel, often a second trigger, a reset
+    /// on one of its ticks or near them, and looks at what is left.
     fn reset_in_mid_ramp(&mut self) {
         let base = self.base();
         let [first, second, _] = self.levels;
@@ -213,12 +213,14 @@ impl Session {
         self.trigger_level(first);
         let ticks = self.random.below(64);
         self.run(ticks);
-        if self.random.percent(30) {
+        if self.random.percent(50) {
+            self.delay_every_channel(second);
             self.trigger_level(second);
         }
         self.line(b"18");
         self.delays = [[0; 32]; 4];
         self.read(base + 128 * table, 6);
+        self.read_active();
         for _ in 0..self.random.within(1, 4) {
             self.read_status();
         }
@@ -227,27 +229,6 @@ impl Session {
         if self.random.percent(85) {
             self.set_up();
         }
-    }
-
-    /// A level whose loads all come late, triggered, looked at before any
-    /// load, and then often replaced by another trigger.
-    fn wait_on_every_channel(&mut self) {
-        let level = self.level();
-        for channel in 0..4 {
-            let delay = self.random.within(22, 90);
-            self.set_delay(channel << 12, level, delay);
-        }
-        self.trigger_level(level);
-        let ticks = self.random.pick(&[0, 1, 5, 11, 12, 20, 40, 80]);
-        self.run(ticks);
-        self.read(0x4210, 1);
-        self.read(0x4211, 1);
-        if self.random.percent(60) {
-            self.trigger();
-        }
-        let base = self.base();
-        self.look_around(base);
-        self.read_status();
     }
 
     /// A table written in one frame, and points at its end and beside it.
