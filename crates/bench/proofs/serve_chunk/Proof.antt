@@ -33,10 +33,10 @@ stopped-requires : tie.Need-stopped-requires Inv-loop μ-loop
 stopped-requires c κs = search needs
 
 same-length : tie.Need-same-length Inv-loop μ-loop
-same-length c = search needs
+same-length c = let v = c .before .before .before .before .before .before .before .before .before .before .before .before .before .before .before .loop .inv in search (needs, v)
 
 same-length-2 : tie.Need-same-length-2 Inv-loop μ-loop
-same-length-2 c = search needs
+same-length-2 c = let v = c .before .before .before .before .before .before .before .before .before .before .before .before .before .before .before .loop .inv in search (needs, v)
 
 returns : tie.Need-returns Inv-loop μ-loop
 returns c = search needs
