@@ -29,7 +29,7 @@ use Rattle.history.specs.Triggers.{eventBy}
 use Rattle.history.specs.Story.{byTrigger}
 use Rattle.history.specs.Countdowns.{justBefore, CountdownsSet}
 use Rattle.history.specs.Demand3.{sideAt}
-use Rattle.history.specs.Active.{loadAmong, inTick, atTrigger, loadsByCounting, loadsAtTrigger, loadsIn, loadsAfter, activeIn, atReset, activeAfter, lastLoaded, ActiveRight, Pending, NeverShows, shortest, firstLoad, ShownOnTime}
+use Rattle.history.specs.Active.{loadAmong, inTick, atTrigger, loadsBy, loadsIn, loadsBefore, loadsAtTrigger, loadsAfter, activeIn, atReset, activeAfter, lastLoaded, ActiveRight, Pending, NeverShows, shortest, firstLoad, ShownOnTime}
 use Rattle.history.proofs.Addresses.{level-register, event-register}
 use Rattle.history.proofs.Cards.{channel-keeps, count-keeps}
 use Rattle.history.proofs.Effects.{passed-does}
@@ -37,7 +37,7 @@ use Rattle.history.proofs.Writing.{write-by}
 use Rattle.history.proofs.Parts.{none-first, write-part}
 use Rattle.history.proofs.Tracks.{advanced-four, quiet-tick, trigger-four, trigger-is}
 use Rattle.history.proofs.Countdowns.{countdowns-set}
-use Rattle.history.proofs.Loads.{some-none, some-one, advanced-counts, tick-loads, advanced-active, advanced-pending, trigger-loads, trigger-active, trigger-pending}
+use Rattle.history.proofs.Loads.{some-none, some-one, loads-told, advanced-counts, tick-loads, advanced-active, advanced-pending, trigger-loads, trigger-active, trigger-pending}
 
 -- ---- an act
 
@@ -67,7 +67,7 @@ before-settings st (Read start count ws) = refl
 before-settings st Reset = refl
 
 -- what is shown just before an act's trigger
-before-active : (st : State) (x : Act) → justBefore st x .card .active ≡ cond (loadsByCounting st x) (st .card .pending) (st .card .active)
+before-active : (st : State) (x : Act) → justBefore st x .card .active ≡ cond (loadsBefore st x) (st .card .pending) (st .card .active)
 before-active st (Tick event) = advanced-active st
 before-active st (Write start count ws) = refl
 before-active st (Read start count ws) = refl
@@ -91,9 +91,11 @@ module _ (st : State) (x : Act) (level : ℕ) (e : triggerBy st x ≡ Level leve
 act-shown : (st : State) (x : Act) (later : Bool)
     → cond later (act st x .card .pending) (act st x .card .active)
     ≡ activeAfter (triggerBy st x) x (loadsAtTrigger st x || later)
-    (cond (loadsByCounting st x || (loadsAtTrigger st x || later)) (st .card .pending) (st .card .active))
+    (cond (loadsBy st x || later) (st .card .pending) (st .card .active))
 unfolding cardReset
-act-shown st x later = go (triggerBy st x) refl
+act-shown st x later =
+    go (triggerBy st x) refl
+    ∙ ap (λ (b : Bool). activeAfter (triggerBy st x) x (loadsAtTrigger st x || later) (cond (b || later) p a)) (sym (loads-told st x))
   where
     p : Cause
     p = st .card .pending
@@ -103,7 +105,7 @@ act-shown st x later = go (triggerBy st x) refl
 
     -- a trigger
     cases : (t : Cause) (before once later : Bool)
-        → cond later t (cond once t (cond before p a)) ≡ cond (once || later) t (cond (before || (once || later)) p a)
+        → cond later t (cond once t (cond before p a)) ≡ cond (once || later) t (cond (before || once || later) p a)
     cases t before true true = refl
     cases t before true false = refl
     cases t before false true = refl
@@ -111,7 +113,7 @@ act-shown st x later = go (triggerBy st x) refl
     cases t false false false = refl
 
     -- no trigger
-    none : (before later : Bool) → cond later p (cond before p a) ≡ cond (before || later) p a
+    none : (before later : Bool) → cond later p (cond before p a) ≡ cond (before || false || later) p a
     none true true = refl
     none true false = refl
     none false true = refl
@@ -121,8 +123,8 @@ act-shown st x later = go (triggerBy st x) refl
     still later y e = ap (λ (t : Cause × Cause). cond later (t .1) (t .0)) e
 
     quiet : (y : Act) → triggerBy st y ≡ Nobody
-        → cond later (act st y .card .pending) (act st y .card .active) ≡ activeAfter Nobody y later (cond (loadsByCounting st y || later) p a)
-    quiet (Tick event) e = rw (quiet-tick st event e, advanced-pending st, advanced-active st) (none (loadsByCounting st (Tick event)) later)
+        → cond later (act st y .card .pending) (act st y .card .active) ≡ activeAfter Nobody y later (cond (loadsBefore st y || false || later) p a)
+    quiet (Tick event) e = rw (quiet-tick st event e, advanced-pending st, advanced-active st) (none (loadsBefore st (Tick event)) later)
     quiet (Write start count ws) e = still later (act st (Write start count ws) .card) (write-keeps st start count ws e)
     quiet (Read start count ws) e = refl
     quiet Reset e = choose later
@@ -133,11 +135,11 @@ act-shown st x later = go (triggerBy st x) refl
 
     go : (h : Holder) → triggerBy st x ≡ h
         → cond later (act st x .card .pending) (act st x .card .active)
-        ≡ activeAfter (triggerBy st x) x (loadsAtTrigger st x || later) (cond (loadsByCounting st x || (loadsAtTrigger st x || later)) p a)
+        ≡ activeAfter (triggerBy st x) x (loadsAtTrigger st x || later) (cond (loadsBefore st x || loadsAtTrigger st x || later) p a)
     go (Level l) e =
         rw (kept-pending st x l e, shown-active st x l e, before-active st x)
-        (cases (cause l (eventBy x)) (loadsByCounting st x) (loadsAtTrigger st x) later
-        ∙ ap (λ (h : Holder). activeAfter h x (loadsAtTrigger st x || later) (cond (loadsByCounting st x || (loadsAtTrigger st x || later)) p a)) (sym e))
+        (cases (cause l (eventBy x)) (loadsBefore st x) (loadsAtTrigger st x) later
+        ∙ ap (λ (h : Holder). activeAfter h x (loadsAtTrigger st x || later) (cond (loadsBefore st x || loadsAtTrigger st x || later) p a)) (sym e))
     go Nobody e = quiet x e ∙ rw e
 
 -- ---- after any history
@@ -198,18 +200,21 @@ module _ (st : State) (x : Act) (level : ℕ) (xs : List Act) (h : Pending st x 
   abbrev z : State
   z = acts (act st x) xs
 
-  afterwards : loadsAfter st x xs ≡ false → (y : Act) (l : ℕ) → triggerBy z y ≡ Level l → loadsByCounting z y ≡ false → (ys : List Act)
+  afterwards : loadsAfter st x xs ≡ false → (y : Act) (l : ℕ) → triggerBy z y ≡ Level l → loadsBefore z y ≡ false → (ys : List Act)
       → activeIn (acts z (y ∷ ys)) ≡ lastLoaded z (y ∷ ys) (activeIn (justBefore st x))
   afterwards e y l f g ys =
       reads (acts z (y ∷ ys))
       ∙ acts-shown z (y ∷ ys)
       ∙ ap (lastLoaded (act z y) ys)
-      (go (triggerBy z y) f (loadsByCounting z y) g (loadsAfter z y ys) ∙ ap (activeAfter (triggerBy z y) y (loadsAfter z y ys)) (sym (reads z) ∙ meanwhile e))
+      (ap (λ (b : Bool). activeAfter (triggerBy z y) y (loadsAfter z y ys) (cond (b || loadsIn (act z y) ys) (z .card .pending) (z .card .active))) (loads-told z y)
+      ∙ go (triggerBy z y) f (loadsBefore z y) g (loadsAtTrigger z y) (loadsIn (act z y) ys)
+      ∙ ap (activeAfter (triggerBy z y) y (loadsAfter z y ys)) (sym (reads z) ∙ meanwhile e))
     where
-      go : (r : Holder) → r ≡ Level l → (before : Bool) → before ≡ false → (b : Bool)
-          → activeAfter r y b (cond (before || b) (z .card .pending) (z .card .active)) ≡ activeAfter r y b (z .card .active)
-      go r f before g true = rw f
-      go r f before g false = rw (f, g)
+      go : (r : Holder) → r ≡ Level l → (before : Bool) → before ≡ false → (once later : Bool)
+          → activeAfter r y (once || later) (cond (before || once || later) (z .card .pending) (z .card .active)) ≡ activeAfter r y (once || later) (z .card .active)
+      go r f before g true later = rw f
+      go r f before g false true = rw f
+      go r f before g false false = rw (f, g)
 
 -- A TRIGGER THAT IS REPLACED BEFORE ANY CHANNEL LOADS NEVER SHOWS
 pub never-shows : NeverShows
@@ -272,15 +277,15 @@ leb-next m n = go (leb m n) refl
 -- THE FIRST LOAD COMES ON TICK m + 1
 first-load : (st : State) (xs : List Act) → length (st .card .channels) ≡ 4 → Quiet st xs → (m : ℕ) → First st m → loadsIn st xs ≡ leb (suc m) (ticksIn xs)
 first-load st [] f q m r = sym (lt-leb (suc m) 0 (omega arith))
-first-load st (Tick event ∷ xs) f q zero r = rw (next-loads st r) (sym (le-leb 1 (suc (ticksIn xs)) (omega arith)))
+first-load st (Tick event ∷ xs) f q zero r = rw (loads-told st (Tick event), next-loads st r) (sym (le-leb 1 (suc (ticksIn xs)) (omega arith)))
 first-load st (Tick event ∷ xs) f q (suc m) r =
     let e = quiet-tick st event (q .0 .noTrigger) in
-    rw (next-waits st m r, no-trigger st (Tick event) (q .0 .noTrigger))
+    rw (loads-told st (Tick event), next-waits st m r, no-trigger st (Tick event) (q .0 .noTrigger))
     (first-load (act st (Tick event)) xs (rw e (advanced-four st)) (q .1) m (subst (λ (z : State). First z m) (sym e) (next-first st m r))
     ∙ leb-next (suc m) (ticksIn xs))
 first-load st (Write start count ws ∷ xs) f q m r =
     let e = q .0 .noTrigger in
-    rw (no-trigger st (Write start count ws) e)
+    rw (loads-told st (Write start count ws), no-trigger st (Write start count ws) e)
     (first-load (act st (Write start count ws)) xs (write-part 0 (omega arith) st start count ws f e .settled) (q .1) m
     (same-first st (act st (Write start count ws)) m (write-counts st start count ws f e) r))
 first-load st (Read start count ws ∷ xs) f q m r = first-load st xs f (q .1) m r

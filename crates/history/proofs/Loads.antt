@@ -2,11 +2,12 @@
 -- the card shows changes exactly where a load is told (`advanced-active`, `trigger-active`). Assumes nothing.
 use mathlib.Core.Path.{_≡_, refl, sym, ap, _∙_}
 use mathlib.Core.Bool.{Bool, true, false, _||_, cond}
-use mathlib.Core.List.{List, [], _∷_}
-use Prim.Native.Nat.{ℕ, zero, suc, _-_, _<_}
+use mathlib.Core.List.{List, [], _∷_, _++_}
+use Prim.Native.Nat.{ℕ, zero, suc, _+_, _-_, _<_}
 use native.Mathlib.Omega.{arith}
 use lib.Dec.{ltb, eqb}
 use borrow.Author.Tests.{eqb-true}
+use Rattle.map.specs.Map.{base}
 use Rattle.map.specs.Addresses.{enableAt}
 use Rattle.slots.specs.declared.Holder.the-variants.{Level}
 use Rattle.word.specs.Word.{grown, lasting}
@@ -24,8 +25,9 @@ use Rattle.card.specs.Card.{State, channelOf, withChannels, countOf, onSome}
 use Rattle.card.specs.Active.{cause}
 use Rattle.card.specs.Trigger.{counted, struck, triggerOf}
 use Rattle.card.specs.Tick.{advanced}
-use Rattle.history.specs.Story.{Happening, Load, sample, byRamp, byStart, inPhase, byTrigger}
-use Rattle.history.specs.Active.{loadAmong, inTick}
+use Rattle.history.specs.History.{Act, Tick, Write, Read, Reset, wordsDone}
+use Rattle.history.specs.Story.{Happening, Load, Sample, Output, Clear, Fresh, sample, byRamp, byStart, inPhase, byTrigger, byWord, byWords}
+use Rattle.history.specs.Active.{loadAmong, loadsBy, inTick, atTrigger, loadsBefore, loadsAtTrigger}
 use Rattle.history.proofs.Cards.{count-keeps}
 use Rattle.history.proofs.Tracks.{tick-turn, tick-same, trigger-turn, trigger-same}
 use Rattle.history.proofs.Countdowns.{triggered-counts}
@@ -57,6 +59,55 @@ some-one f (suc (suc (suc zero))) h e = rw e (go (f 0 || f 1 || f 2))
     go true = refl
     go false = refl
 some-one f (suc (suc (suc (suc c)))) h e = absurd (omega arith)
+
+-- ---- the loads of an act
+
+or-none : (a : Bool) → a || false ≡ a
+or-none true = refl
+or-none false = refl
+
+or-swap : (a b c d : Bool) → a || b || (c || d) ≡ a || c || (b || d)
+or-swap true b c d = refl
+or-swap false true true d = refl
+or-swap false true false d = refl
+or-swap false false c d = refl
+
+some-or : (f g : ℕ → Bool) → onSome (λ c. f c || g c) ≡ onSome f || onSome g
+some-or f g =
+    ap (λ (x : Bool). x || (f 2 || g 2) || (f 3 || g 3)) (or-swap (f 0) (g 0) (f 1) (g 1))
+    ∙ ap (λ (x : Bool). x || (f 3 || g 3)) (or-swap (f 0 || f 1) (g 0 || g 1) (f 2) (g 2))
+    ∙ or-swap (f 0 || f 1 || f 2) (g 0 || g 1 || g 2) (f 3) (g 3)
+
+load-append : (hs js : List Happening) → loadAmong (hs ++ js) ≡ loadAmong hs || loadAmong js
+load-append [] js = refl
+load-append (Load ld ∷ hs) js = refl
+load-append (Sample p u ∷ hs) js = load-append hs js
+load-append (Output v ∷ hs) js = load-append hs js
+load-append (Clear ∷ hs) js = load-append hs js
+load-append (Fresh ∷ hs) js = load-append hs js
+
+-- words done are no loads
+words-load : (c a : ℕ) (vs : List ℕ) → loadAmong (byWords c a vs) ≡ false
+words-load c a [] = refl
+words-load c a (v ∷ vs) = load-append (byWord c a v) (byWords c (a + 1) vs) ∙ rw (go (eqb a (base c + 0xA04)) (eqb a (base c + 0xA39)), words-load c (a + 1) vs)
+  where
+    go : (p q : Bool) → loadAmong (cond p (Output v ∷ []) (cond q (Clear ∷ []) [])) ≡ false
+    go true q = refl
+    go false true = refl
+    go false false = refl
+
+-- THE LOADS OF AN ACT ARE THOSE BY COUNTING AND THOSE AT ITS TRIGGER
+pub loads-told : (st : State) (x : Act) → loadsBy st x ≡ loadsBefore st x || loadsAtTrigger st x
+loads-told st (Tick event) =
+    some-same _ _ (λ c h. load-append (inTick st c) (atTrigger st (Tick event) c))
+    ∙ some-or (λ c. loadAmong (inTick st c)) (λ c. loadAmong (atTrigger st (Tick event) c))
+loads-told st (Write start count ws) =
+    some-same _ _
+    (λ c h. load-append (atTrigger st (Write start count ws) c) (byWords c start (wordsDone st start count ws))
+    ∙ ap (λ (b : Bool). loadAmong (atTrigger st (Write start count ws) c) || b) (words-load c start (wordsDone st start count ws))
+    ∙ or-none (loadAmong (atTrigger st (Write start count ws) c)))
+loads-told st (Read start count ws) = refl
+loads-told st Reset = refl
 
 -- ---- a channel's tick
 

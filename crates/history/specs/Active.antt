@@ -16,7 +16,7 @@ use Rattle.card.specs.Tick.{advanced}
 use Rattle.card.specs.Reset.{resetOf}
 use Rattle.history.specs.History.{Act, Tick, Write, Read, Reset, act, acts, readBack, triggerBy, Quiet, ticksIn}
 use Rattle.history.specs.Triggers.{eventBy}
-use Rattle.history.specs.Story.{Happening, Load, Sample, Output, Clear, Fresh, byTick, byTrigger}
+use Rattle.history.specs.Story.{Happening, Load, Sample, Output, Clear, Fresh, byTick, byTrigger, happens}
 use Rattle.history.specs.Countdowns.{justBefore}
 
 -- ---- loads
@@ -30,6 +30,14 @@ loadAmong (Output v ∷ hs) = loadAmong hs
 loadAmong (Clear ∷ hs) = loadAmong hs
 loadAmong (Fresh ∷ hs) = loadAmong hs
 
+-- some channel loads in an act, and in acts
+abbrev pub loadsBy : State → Act → Bool
+loadsBy st x = onSome (λ c. loadAmong (happens c st x))
+
+abbrev pub loadsIn : State → List Act → Bool
+loadsIn st [] = false
+loadsIn st (x ∷ xs) = loadsBy st x || loadsIn (act st x) xs
+
 -- what happens on channel c as a tick advances it, and at an act's trigger
 abbrev pub inTick : State → ℕ → List Happening
 inTick st c = byTick (st .settings) (st .tables) c (channelOf (st .card) c)
@@ -37,23 +45,17 @@ inTick st c = byTick (st .settings) (st .tables) c (channelOf (st .card) c)
 abbrev pub atTrigger : State → Act → ℕ → List Happening
 atTrigger st x c = byTrigger (triggerBy st x) (st .settings) c
 
--- some channel loads by counting: on a tick, before its event is taken
-abbrev pub loadsByCounting : State → Act → Bool
-loadsByCounting st (Tick event) = onSome (λ c. loadAmong (inTick st c))
-loadsByCounting st (Write start count ws) = false
-loadsByCounting st (Read start count ws) = false
-loadsByCounting st Reset = false
+-- some channel loads before the trigger that x is: by counting, since 'a tick first advances every channel, then takes its event'
+abbrev pub loadsBefore : State → Act → Bool
+loadsBefore st (Tick event) = onSome (λ c. loadAmong (inTick st c))
+loadsBefore st (Write start count ws) = false
+loadsBefore st (Read start count ws) = false
+loadsBefore st Reset = false
 
--- some channel loads at the trigger itself
+-- some channel loads after it: at the trigger itself, or in the acts xs that follow
 abbrev pub loadsAtTrigger : State → Act → Bool
 loadsAtTrigger st x = onSome (λ c. loadAmong (atTrigger st x c))
 
--- some channel loads in the acts
-abbrev pub loadsIn : State → List Act → Bool
-loadsIn st [] = false
-loadsIn st (x ∷ xs) = loadsByCounting st x || (loadsAtTrigger st x || loadsIn (act st x) xs)
-
--- some channel loads after the trigger that x is: at the trigger itself, or in the acts xs that follow
 abbrev pub loadsAfter : State → Act → List Act → Bool
 loadsAfter st x xs = loadsAtTrigger st x || loadsIn (act st x) xs
 
@@ -95,10 +97,10 @@ pub record NeverShows : Type 0 where
   -- until a channel loads: what was shown before it
   pub meanwhile : (st : State) (x : Act) (level : ℕ) (xs : List Act) → Pending st x level xs → loadsAfter st x xs ≡ false
       → activeIn (acts (act st x) xs) ≡ activeIn (justBefore st x)
-  -- a trigger y then takes its place, and no channel loads before it on its tick; from then on whatever acts ys come show the last trigger
-  -- from y on after which some channel has loaded, and where there is none what was shown before x
+  -- a trigger y then takes its place, and no channel loads before y; whatever acts ys come, they show the last trigger from y on after which
+  -- some channel has loaded, and where there is none what was shown before x
   pub afterwards : (st : State) (x : Act) (level : ℕ) (xs : List Act) → Pending st x level xs → loadsAfter st x xs ≡ false
-      → (y : Act) (l : ℕ) → triggerBy (acts (act st x) xs) y ≡ Level l → loadsByCounting (acts (act st x) xs) y ≡ false → (ys : List Act)
+      → (y : Act) (l : ℕ) → triggerBy (acts (act st x) xs) y ≡ Level l → loadsBefore (acts (act st x) xs) y ≡ false → (ys : List Act)
       → activeIn (acts (acts (act st x) xs) (y ∷ ys)) ≡ lastLoaded (acts (act st x) xs) (y ∷ ys) (activeIn (justBefore st x))
 
 -- the shortest of the four channels' delays for a level
@@ -121,7 +123,7 @@ pub record ShownOnTime : Type 0 where
 
 -- ---- the ramp that is loaded
 
--- 'It names the ramp that is loaded': after any history of a card that was reset, whatever a channel loads, by counting or at a trigger, is
+-- It names the ramp that is loaded: after any history of a card that was reset, whatever a channel loads, by counting or at a trigger, is
 -- table, scale factor and offset for the level that 0x4210 then shows
 pub record NamesTheLoaded (st : State) : Type 0 where
   pub counting : (c : ℕ) → c < 4 → loadAmong (inTick st c) ≡ true → inTick st c ≡ Load (loadedFor (st .settings) c (readBack (advanced st) 0x4210)) ∷ []
