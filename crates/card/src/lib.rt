@@ -7,6 +7,7 @@ use channel::Shown;
 use slots::Holder;
 use word::Samples;
 ghost use mathlib.Core.Path.{_≡_};
+ghost use mathlib.Core.Bool.{cond};
 ghost use Rattle.word.specs.Lent.{lent, left};
 ghost use Rattle.card.specs.Card.{before, Leaves, LeavesWhole, LeavesAll, noChannel, channelOf, withChannel, countOf, withCount};
 ghost use Rattle.card.specs.Active.{cause, someLoaded, showing};
@@ -172,18 +173,23 @@ fn keep(card: Card, level: u16, event: u16) -> Card
 fn show(card: Card) -> Card
     ensures { λ r. ⌜ r ≡ showing card ⌝ }
 {
-    if some_loaded(card) {
-        let channels = card.channels;
-        let counts = card.counts;
-        let pending = card.pending;
-        return Card {
-            channels: channels,
-            counts: counts,
-            active: pending,
-            pending: pending,
-        };
+    let loaded = some_loaded(card);
+    let channels = card.channels;
+    let counts = card.counts;
+    let active = card.active;
+    let pending = card.pending;
+    Card {
+        channels: channels,
+        counts: counts,
+        active: either(loaded, pending, active),
+        pending: pending,
     }
-    card
+}
+
+fn either(first: bool, a: Cause, b: Cause) -> Cause
+    ensures { λ r. ⌜ r ≡ cond first a b ⌝ }
+{
+    if first { a } else { b }
 }
 
 fn some_loaded(card: Card) -> bool
