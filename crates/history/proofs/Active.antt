@@ -11,12 +11,11 @@ use borrow.Author.Tests.{eq-eqb, ne-eqb, eqb-true, eqb-false, le-leb, lt-leb, le
 use Rattle.map.specs.Addresses.{delayAt}
 use Rattle.slots.specs.declared.Holder.{Holder}
 use Rattle.slots.specs.declared.Holder.the-variants.{Level, Nobody}
-use Rattle.channel.specs.Channel.{Side, word, lead, toStart, loadsAt, countdown, loadedFor}
+use Rattle.channel.specs.Channel.{Side, word, lead, toStart, loadsAt, countdown}
 use Rattle.card.specs.declared.Cause.{Cause}
 use Rattle.card.specs.declared.Card.{Card}
 use Rattle.card.specs.Card.{State, channelOf, onSome}
 use Rattle.card.specs.Active.{cause}
-use Rattle.card.specs.Trigger.{triggerOf}
 use Rattle.card.specs.Tick.{advanced}
 use Rattle.card.specs.Reset.{cardReset, resetOf}
 use Rattle.card.proofs.Ticks.{advanced-settings, trigger-settings}
@@ -78,7 +77,7 @@ module _ (st : State) (x : Act) (level : ℕ) (e : triggerBy st x ≡ Level leve
   act-settings = ap (λ (z : State). z .settings) (trigger-is st x level e) ∙ trigger-settings (justBefore st x) level (eventBy x) ∙ before-settings st x
 
   -- an act that is a trigger keeps it, and shows it where some channel loads at once
-  pub kept-pending : act st x .card .pending ≡ cause level (eventBy x)
+  kept-pending : act st x .card .pending ≡ cause level (eventBy x)
   kept-pending = ap (λ (z : State). z .card .pending) (trigger-is st x level e) ∙ trigger-pending (justBefore st x) level (eventBy x)
 
   pub shown-active : act st x .card .active ≡ cond (loadsAtTrigger st x) (cause level (eventBy x)) (justBefore st x .card .active)

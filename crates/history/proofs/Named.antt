@@ -24,12 +24,12 @@ use Rattle.history.specs.Triggers.{eventBy}
 use Rattle.history.specs.Story.{Happening, Load, byRamp, byStart, inPhase, byTrigger}
 use Rattle.history.specs.Countdowns.{justBefore}
 use Rattle.history.specs.Demand3.{sideAt}
-use Rattle.history.specs.Active.{loadAmong, inTick, atTrigger, activeIn, NamesTheLoaded, LoadsNamed}
+use Rattle.history.specs.Active.{loadAmong, inTick, atTrigger, LoadsNamed}
 use Rattle.history.proofs.Parts.{write-part}
 use Rattle.history.proofs.Story.{four-fresh}
 use Rattle.history.proofs.Tracks.{tick-turn, tick-same, advanced-four, quiet-tick, trigger-turn, trigger-same, trigger-four, trigger-is}
 use Rattle.history.proofs.Loads.{some-one, ramp-loads, start-loads, advanced-active, advanced-pending, trigger-pending}
-use Rattle.history.proofs.Active.{causes, write-keeps, shown-active, reads}
+use Rattle.history.proofs.Active.{write-keeps, shown-active, reads}
 
 -- ---- every channel's pending level is the card's
 

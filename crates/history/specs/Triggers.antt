@@ -1,14 +1,12 @@
 -- The rule of accepted triggers, and what the event image shows.
 use mathlib.Core.Path.{_≡_}
-use mathlib.Core.List.{List, [], _∷_}
+use mathlib.Core.List.{List}
 use Prim.Native.Nat.{ℕ, _+_, _<_}
 use lib.ListN.{length, getD}
-use Rattle.slots.specs.declared.Holder.{Holder}
-use Rattle.slots.specs.declared.Holder.the-variants.{Level, Nobody}
+use Rattle.slots.specs.declared.Holder.the-variants.{Level}
 use Rattle.slots.specs.Slots.{slotOf, levelOf}
 use Rattle.card.specs.Card.{State}
-use Rattle.card.specs.Reset.{resetOf}
-use Rattle.history.specs.History.{Act, Tick, Write, Read, Reset, act, acts, readBack, wordsDone, triggerBy}
+use Rattle.history.specs.History.{Act, Tick, Write, Read, Reset, readBack, wordsDone, triggerBy}
 use Rattle.history.specs.Sound.{Sound}
 
 -- ---- the rule

@@ -1,6 +1,6 @@
 -- `channel::just_loaded` meets its contract, case by case. Assumes nothing.
 use borrow.Author.Needs.{needs}
-use mathlib.Core.Path.{_≡_, sym, ap, _∙_}
+use mathlib.Core.Path.{_≡_, sym, ap}
 use Rattle.channel.specs.declared.Phase.{Phase}
 use Rattle.channel.specs.Channel.{justLoaded}
 use Rattle.channel.proofs.just_loaded.Statement.{statement}
