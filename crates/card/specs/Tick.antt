@@ -8,7 +8,7 @@ use Rattle.card.specs.Trigger.{eventOf}
 abbrev pub moved : State → All
 moved st = onAll (λ c l ch. tickOf (st .settings) l c ch) (st .card) (st .tables)
 
--- every channel one microsecond on; a load by counting shows the trigger that is pending before the event is taken
+-- every channel one microsecond on; a load by counting shows the pending trigger, and only then the event is taken
 unfoldable pub advanced : State → State
 advanced st = state (showing (withChannels (st .card) (moved st .channels))) (st .settings) (moved st .tables)
 

@@ -17,7 +17,7 @@ use Rattle.card.specs.Active.{cause, showing}
 abbrev pub counted : Card → ℕ → Card
 counted k level = withCount k level (grown (countOf k level))
 
--- a trigger keeps its level and its event (0xFE if manual) as pending, in the place of one that was
+-- the trigger's level and event (0xFE if manual) are kept as pending, in the place of the last trigger's
 abbrev pub keeping : Card → Cause → Card
 keeping k t = record { channels = k .channels; counts = k .counts; active = k .active; pending = t }
 

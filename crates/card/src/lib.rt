@@ -186,12 +186,14 @@ fn show(card: Card) -> Card
     }
 }
 
+// The first of two, or the second.
 fn either(first: bool, a: Cause, b: Cause) -> Cause
     ensures { λ r. ⌜ r ≡ cond first a b ⌝ }
 {
     if first { a } else { b }
 }
 
+// Whether the trigger or the tick that has just moved the card has loaded some channel.
 fn some_loaded(card: Card) -> bool
     ensures { λ r. ⌜ r ≡ someLoaded card ⌝ }
 {

@@ -72,7 +72,7 @@ abbrev pub lead : ℕ
 lead = 10
 
 -- 'when the countdown is set at 10 or reaches 10': the one rule of when a channel loads, for the trigger, for the tick and for what
--- 0x4210 shows
+-- 0x4210 and 0x4211 show
 abbrev pub loadsAt : ℕ → Bool
 loadsAt n = eqb n lead
 
@@ -82,7 +82,7 @@ toStart Rest = 0
 toStart (Counting n older) = n .0
 toStart (Running w) = 0
 
--- of a channel that a trigger or a tick has just brought to a phase: it has loaded
+-- whether the trigger or the tick that has just brought a channel to this phase has loaded it
 abbrev pub justLoaded : Phase → Bool
 justLoaded p = loadsAt (toStart p)
 

@@ -111,7 +111,7 @@ pub fn runs(ch: Channel) -> bool
     }
 }
 
-// A channel that a trigger or a tick has just moved has loaded: its countdown stands at 10.
+// Whether the trigger or the tick that has just moved a channel has loaded it: then its countdown stands at 10.
 pub fn just_loaded(ch: Channel) -> bool
     ensures { λ r. ⌜ r ≡ justLoaded (ch .phase) ⌝ }
 {

@@ -14,7 +14,7 @@ use Rattle.channel.specs.declared.Phase.the-variants.{Rest, Counting, Running}
 use Rattle.channel.specs.declared.Ramp.{Ramp}
 use Rattle.channel.specs.declared.Shown.{Shown}
 use Rattle.channel.specs.declared.Channel.{Channel}
-use Rattle.channel.specs.Channel.{Side, side, word, with, firstOf, lead, runsOf, copied, load, start, countTo, tickAt, tickOf, triggered}
+use Rattle.channel.specs.Channel.{Side, side, word, with, firstOf, lead, loadsAt, runsOf, copied, load, start, countTo, tickAt, tickOf, triggered}
 use Rattle.course.specs.Points.{SameTable}
 use Rattle.course.specs.Course.{Act, Tick, Elsewhere, Output, Clear, elsewhere, written, act, run, ticksIn, until, heldOn}
 use Rattle.course.proofs.Copies.{choose, copied-length, copied-in, copied-same, tick-length, tick-out, trigger-length, trigger-out}
@@ -40,7 +40,7 @@ module _ (s l : List ℕ) (c : ℕ) (ch : Channel) where
   tick-level-in : (f : Phase) → tickAt f s l c ch .channel .level ≡ ch .level
   unfolding tickAt countTo
   tick-level-in Rest = refl
-  tick-level-in (Counting n older) = choose SameLevel (eqb (n .0 - 1) 0) _ _ start-level (choose SameLevel (eqb (n .0 - 1) lead) _ _ load-level refl)
+  tick-level-in (Counting n older) = choose SameLevel (eqb (n .0 - 1) 0) _ _ start-level (choose SameLevel (loadsAt (n .0 - 1)) _ _ load-level refl)
   tick-level-in (Running w) = refl
 
   pub tick-level : tickOf s l c ch .channel .level ≡ ch .level
@@ -57,9 +57,9 @@ module _ (s l : List ℕ) (c : ℕ) (ch : Channel) where
 
   count-kept : (n : ℕ) (older : Ramp) → (n ≡ 11 → ⊥) → Kept (countTo (n - 1) older s l c ch)
   unfolding countTo
-  count-kept n older h = go (eqb (n - 1) 0) (eqb (n - 1) lead) refl _ _ _
+  count-kept n older h = go (eqb (n - 1) 0) (loadsAt (n - 1)) refl _ _ _
     where
-      go : (a b : Bool) → eqb (n - 1) lead ≡ b → (x : Side) (p : Phase) (t : Shown) → Kept (cond a (side (start s l c ch) l) (cond b x (side (with ch p t) l)))
+      go : (a b : Bool) → loadsAt (n - 1) ≡ b → (x : Side) (p : Phase) (t : Shown) → Kept (cond a (side (start s l c ch) l) (cond b x (side (with ch p t) l)))
       go true b e x p t = start-kept
       go false true e x p t = absurd (h (omega (arith, eqb-true (n - 1) lead e)))
       go false false e x p t = record { loaded = refl; tables = refl }

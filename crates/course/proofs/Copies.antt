@@ -14,7 +14,7 @@ use Rattle.channel.specs.declared.Phase.{Phase}
 use Rattle.channel.specs.declared.Phase.the-variants.{Rest, Counting, Running}
 use Rattle.channel.specs.declared.Ramp.{Ramp}
 use Rattle.channel.specs.declared.Channel.{Channel}
-use Rattle.channel.specs.Channel.{Side, word, firstOf, lead, copied, load, countTo, tickAt, tickOf, countdown, triggered}
+use Rattle.channel.specs.Channel.{Side, word, firstOf, loadsAt, copied, load, countTo, tickAt, tickOf, countdown, triggered}
 
 -- what is so on both sides of a test
 pub choose : {A : Type 0} (P : A → Type 0) (b : Bool) (x y : A) → P x → P y → P (cond b x y)
@@ -69,7 +69,7 @@ module _ (s l : List ℕ) (c : ℕ) (ch : Channel) where
 
     count-tables : (m : ℕ) (older : Ramp) → ((from : ℕ) → P (copied 128 s from l (firstOf c))) → P (countTo m older s l c ch .tables)
     unfolding countTo
-    count-tables m older q = choose So (eqb m 0) _ _ p (choose So (eqb m lead) _ _ (load-tables (ch .level) q) p)
+    count-tables m older q = choose So (eqb m 0) _ _ p (choose So (loadsAt m) _ _ (load-tables (ch .level) q) p)
 
     tick-tables : (f : Phase) → ((from : ℕ) → P (copied 128 s from l (firstOf c))) → P (tickAt f s l c ch .tables)
     unfolding tickAt
@@ -79,7 +79,7 @@ module _ (s l : List ℕ) (c : ℕ) (ch : Channel) where
 
     trigger-tables : (level : ℕ) → ((from : ℕ) → P (copied 128 s from l (firstOf c))) → P (triggered s l c ch level .tables)
     unfolding triggered
-    trigger-tables level q = choose So (eqb (countdown s c level) lead) _ _ (load-tables level q) p
+    trigger-tables level q = choose So (loadsAt (countdown s c level)) _ _ (load-tables level q) p
 
   pub tick-length : length (tickOf s l c ch .tables) ≡ length l
   tick-length = tick-tables (λ x. length x ≡ length l) refl (ch .phase) (λ from. copied-length 128 s from l (firstOf c))

@@ -1,40 +1,39 @@
 -- 0x4210 and 0x4211 show the last trigger after which some channel has loaded (`active-right`): a trigger that is replaced before never
 -- shows (`never-shows`), any other shows on the tick of its first load (`shown-on-time`). Assumes nothing.
 use mathlib.Core.Path.{_≡_, refl, sym, ap, _∙_, subst}
-use mathlib.Core.Bool.{Bool, true, false, _||_, cond, true≢false}
+use mathlib.Core.Bool.{Bool, true, false, _||_, cond, true≢false, or-false}
 use mathlib.Core.List.{List, [], _∷_}
 use Prim.Native.Nat.{ℕ, zero, suc, _+_, _-_, _≤_, _<_}
 use native.Mathlib.Omega.{arith}
-use lib.Dec.{eqb, leb}
+use lib.Dec.{eqb, leb, leb·suc-suc, leb·suc-zero}
 use lib.ListN.{length}
-use borrow.Author.Tests.{eq-eqb, ne-eqb, eqb-true, eqb-false, le-leb, lt-leb, leb-true, leb-false}
+use borrow.Author.Tests.{eq-eqb, ne-eqb, eqb-true, eqb-false, le-leb, leb-true, leb-false}
 use Rattle.map.specs.Addresses.{delayAt}
 use Rattle.slots.specs.declared.Holder.{Holder}
 use Rattle.slots.specs.declared.Holder.the-variants.{Level, Nobody}
-use Rattle.channel.specs.Channel.{Side, word, lead, toStart, loadsAt, countdown}
+use Rattle.channel.specs.Channel.{word, lead, toStart, loadsAt, countdown}
 use Rattle.card.specs.declared.Cause.{Cause}
 use Rattle.card.specs.declared.Card.{Card}
-use Rattle.card.specs.Card.{State, channelOf, onSome}
+use Rattle.card.specs.Card.{State, channelOf}
 use Rattle.card.specs.Active.{cause}
 use Rattle.card.specs.Tick.{advanced}
 use Rattle.card.specs.Reset.{cardReset, resetOf}
-use Rattle.card.proofs.Ticks.{advanced-settings, trigger-settings}
+use Rattle.card.proofs.Ticks.{trigger-settings}
 use Rattle.transfer.specs.Word.{outputTo, overflowCleared}
 use Rattle.transfer.specs.Transfer.{writeOf}
-use Rattle.course.proofs.Acts.{untimed-ramp}
+use Rattle.course.proofs.Copies.{choose}
 use Rattle.history.specs.History.{Act, Tick, Write, Read, Reset, act, acts, wordsDone, manualAmong, triggerBy, isReset, Quiet, ticksIn}
 use Rattle.history.specs.Effects.{Does, Keeps, Outputs, ClearsOverflow, ClearsCount, Erases, Idles, Triggers}
 use Rattle.history.specs.Triggers.{eventBy}
-use Rattle.history.specs.Story.{byTrigger}
+use Rattle.history.specs.Story.{byTrigger, inTick, atTrigger}
 use Rattle.history.specs.Countdowns.{justBefore, CountdownsSet}
-use Rattle.history.specs.Demand3.{sideAt}
-use Rattle.history.specs.Active.{loadAmong, inTick, atTrigger, loadsBy, loadsIn, loadsBefore, loadsAtTrigger, loadsAfter, activeIn, atReset, activeAfter, lastLoaded, ActiveRight, Pending, NeverShows, shortest, firstLoad, ShownOnTime}
+use Rattle.history.specs.Active.{loadAmong, loadsBy, loadsIn, loadsByCounting, loadsBefore, loadsAtTrigger, loadsAfter, activeIn, atReset, activeAfter, lastLoaded, ActiveRight, LastTrigger, NeverShows, shortest, firstLoad, ShownOnTime}
 use Rattle.history.proofs.Addresses.{level-register, event-register}
 use Rattle.history.proofs.Cards.{channel-keeps, count-keeps}
 use Rattle.history.proofs.Effects.{passed-does}
 use Rattle.history.proofs.Writing.{write-by}
-use Rattle.history.proofs.Parts.{none-first, write-part}
-use Rattle.history.proofs.Tracks.{advanced-four, quiet-tick, trigger-four, trigger-is}
+use Rattle.history.proofs.Parts.{none-first, write-part, part-keeps}
+use Rattle.history.proofs.Tracks.{advanced-four, quiet-tick, trigger-four, trigger-is, before-settings}
 use Rattle.history.proofs.Countdowns.{countdowns-set}
 use Rattle.history.proofs.Loads.{some-none, some-one, loads-told, advanced-counts, tick-loads, advanced-active, advanced-pending, trigger-loads, trigger-active, trigger-pending}
 
@@ -59,12 +58,6 @@ write-keeps =
     write-by (λ st a vs z. manualAmong a vs ≡ Nobody → causes (z .card) ≡ causes (st .card)) (λ st a q. refl)
     (λ st a v vs z p r q. let y = none-first a v vs q in r (y .1) ∙ word-keeps st a v _ (y .0) (passed-does st a v p))
 
-before-settings : (st : State) (x : Act) → justBefore st x .settings ≡ st .settings
-before-settings st (Tick event) = advanced-settings st
-before-settings st (Write start count ws) = refl
-before-settings st (Read start count ws) = refl
-before-settings st Reset = refl
-
 -- what is shown just before an act's trigger
 before-active : (st : State) (x : Act) → justBefore st x .card .active ≡ cond (loadsBefore st x) (st .card .pending) (st .card .active)
 before-active st (Tick event) = advanced-active st
@@ -85,6 +78,13 @@ module _ (st : State) (x : Act) (level : ℕ) (e : triggerBy st x ≡ Level leve
       ap (λ (z : State). z .card .active) (trigger-is st x level e)
       ∙ trigger-active (justBefore st x) level (eventBy x)
       ∙ rw (before-settings st x, e)
+
+-- the later of two, or the one before it
+or-else : (later once : Bool) (t a : Cause) → cond later t (cond once t a) ≡ cond (once || later) t a
+or-else true true t a = refl
+or-else true false t a = refl
+or-else false true t a = refl
+or-else false false t a = refl
 
 -- an act, and whether some channel loads after it
 act-shown : (st : State) (x : Act) (later : Bool)
@@ -111,26 +111,15 @@ act-shown st x later =
     cases t true false false = refl
     cases t false false false = refl
 
-    -- no trigger
-    none : (before later : Bool) → cond later p (cond before p a) ≡ cond (before || false || later) p a
-    none true true = refl
-    none true false = refl
-    none false true = refl
-    none false false = refl
-
     still : (later : Bool) (y : Card) → causes y ≡ causes (st .card) → cond later (y .pending) (y .active) ≡ cond later p a
     still later y e = ap (λ (t : Cause × Cause). cond later (t .1) (t .0)) e
 
     quiet : (y : Act) → triggerBy st y ≡ Nobody
-        → cond later (act st y .card .pending) (act st y .card .active) ≡ activeAfter Nobody y later (cond (loadsBefore st y || false || later) p a)
-    quiet (Tick event) e = rw (quiet-tick st event e, advanced-pending st, advanced-active st) (none (loadsBefore st (Tick event)) later)
+        → cond later (act st y .card .pending) (act st y .card .active) ≡ activeAfter Nobody y later (cond (loadsBefore st y || later) p a)
+    quiet (Tick event) e = rw (quiet-tick st event e, advanced-pending st, advanced-active st) (or-else later (loadsByCounting st) p a)
     quiet (Write start count ws) e = still later (act st (Write start count ws) .card) (write-keeps st start count ws e)
     quiet (Read start count ws) e = refl
-    quiet Reset e = choose later
-      where
-        choose : (b : Bool) → cond b atReset atReset ≡ atReset
-        choose true = refl
-        choose false = refl
+    quiet Reset e = choose (λ (x : Cause). x ≡ atReset) later atReset atReset refl refl
 
     go : (h : Holder) → triggerBy st x ≡ h
         → cond later (act st x .card .pending) (act st x .card .active)
@@ -139,7 +128,7 @@ act-shown st x later =
         rw (kept-pending st x l e, shown-active st x l e, before-active st x)
         (cases (cause l (eventBy x)) (loadsBefore st x) (loadsAtTrigger st x) later
         ∙ ap (λ (h : Holder). activeAfter h x (loadsAtTrigger st x || later) (cond (loadsBefore st x || loadsAtTrigger st x || later) p a)) (sym e))
-    go Nobody e = quiet x e ∙ rw e
+    go Nobody e = quiet x e ∙ rw (e, or-false (loadsBefore st x))
 
 -- ---- after any history
 
@@ -154,11 +143,10 @@ reads st = rw (level-register, event-register)
 -- 0x4210 AND 0x4211 SHOW THE LAST ACCEPTED TRIGGER AFTER WHICH SOME CHANNEL HAS LOADED
 pub active-right : ActiveRight
 unfolding ActiveRight cardReset
-active-right s l xs = reads (acts (resetOf s l) xs) ∙ acts-shown (resetOf s l) xs ∙ ap (lastLoaded (resetOf s l) xs) (fresh (loadsIn (resetOf s l) xs))
-  where
-    fresh : (b : Bool) → cond b (cardReset .pending) (cardReset .active) ≡ atReset
-    fresh true = refl
-    fresh false = refl
+active-right s l xs =
+    reads (acts (resetOf s l) xs)
+    ∙ acts-shown (resetOf s l) xs
+    ∙ ap (lastLoaded (resetOf s l) xs) (choose (λ (x : Cause). x ≡ atReset) (loadsIn (resetOf s l) xs) atReset atReset refl refl)
 
 -- ---- a trigger on its way
 
@@ -172,25 +160,18 @@ quiet-last st (x ∷ xs) q old = quiet-last (act st x) xs (q .1) _ ∙ go x (q .
     go (Read start count ws) e f = refl
     go Reset e f = absurd (true≢false f)
 
-module _ (st : State) (x : Act) (level : ℕ) (xs : List Act) (h : Pending st x level xs) where
+module _ (st : State) (x : Act) (level : ℕ) (xs : List Act) (h : LastTrigger st x level xs) where
   abbrev t : Cause
   t = cause level (eventBy x)
 
   -- the trigger where some channel has loaded after it, else what was shown before it
-  pending-shown : acts (act st x) xs .card .active ≡ cond (loadsAfter st x xs) t (justBefore st x .card .active)
-  pending-shown =
-      acts-shown (act st x) xs
-      ∙ quiet-last (act st x) xs (h .1) _
-      ∙ rw (kept-pending st x level (h .0), shown-active st x level (h .0)) (go (loadsAtTrigger st x) (loadsIn (act st x) xs) _)
-    where
-      go : (once later : Bool) (a : Cause) → cond later t (cond once t a) ≡ cond (once || later) t a
-      go true true a = refl
-      go true false a = refl
-      go false true a = refl
-      go false false a = refl
-
   shown-while : activeIn (acts (act st x) xs) ≡ cond (loadsAfter st x xs) t (activeIn (justBefore st x))
-  shown-while = reads (acts (act st x) xs) ∙ pending-shown ∙ ap (cond (loadsAfter st x xs) t) (sym (reads (justBefore st x)))
+  shown-while =
+      reads (acts (act st x) xs)
+      ∙ acts-shown (act st x) xs
+      ∙ quiet-last (act st x) xs (h .1) _
+      ∙ rw (kept-pending st x level (h .0), shown-active st x level (h .0)) (or-else (loadsIn (act st x) xs) (loadsAtTrigger st x) t (justBefore st x .card .active))
+      ∙ ap (cond (loadsAfter st x xs) t) (sym (reads (justBefore st x)))
 
   meanwhile : loadsAfter st x xs ≡ false → activeIn (acts (act st x) xs) ≡ activeIn (justBefore st x)
   meanwhile e = shown-while ∙ rw e
@@ -240,11 +221,11 @@ module _ (st : State) where
   reached c = tick-loads (st .settings) (st .tables) c (channelOf (st .card) c) (channelOf (st .card) c .phase)
 
   -- the first load comes on the next tick
-  next-loads : First st 0 → onSome (λ c. loadAmong (inTick st c)) ≡ true
+  next-loads : First st 0 → loadsByCounting st ≡ true
   next-loads f = some-one (λ c. loadAmong (inTick st c)) (f .one) (f .inside) (reached (f .one) ∙ eq-eqb (left (f .one) - 1) lead (omega (arith, f .at)))
 
   -- or on a later one
-  next-waits : (m : ℕ) → First st (suc m) → onSome (λ c. loadAmong (inTick st c)) ≡ false
+  next-waits : (m : ℕ) → First st (suc m) → loadsByCounting st ≡ false
   next-waits m f = some-none (λ c. loadAmong (inTick st c)) (λ c h. reached c ∙ ne-eqb (left c - 1) lead (λ e. absurd (omega (arith, f .all c h))))
 
   next-first : (m : ℕ) → First st (suc m) → First (advanced st) m
@@ -260,33 +241,20 @@ module _ (st : State) where
 no-trigger : (st : State) (x : Act) → triggerBy st x ≡ Nobody → loadsAtTrigger st x ≡ false
 no-trigger st x e = rw e
 
-write-counts : (st : State) (start count : ℕ) (ws : List ℕ) → length (st .card .channels) ≡ 4 → triggerBy st (Write start count ws) ≡ Nobody → (c : ℕ) → c < 4
-    → toStart (channelOf (act st (Write start count ws) .card) c .phase) ≡ toStart (channelOf (st .card) c .phase)
-write-counts st start count ws f e c h =
-    let p = write-part c h st start count ws f e in
-    ap (λ (x : Side). toStart (x .channel .phase)) (sym (p .runs)) ∙ ap toStart (untimed-ramp c (sideAt st c) (p .acts) (p .none) .0)
-
-leb-next : (m n : ℕ) → leb m n ≡ leb (suc m) (suc n)
-leb-next m n = go (leb m n) refl
-  where
-    go : (b : Bool) → leb m n ≡ b → leb m n ≡ leb (suc m) (suc n)
-    go true e = let h = leb-true m n e in e ∙ sym (le-leb (suc m) (suc n) (omega arith))
-    go false e = let h = leb-false m n e in e ∙ sym (lt-leb (suc m) (suc n) (omega arith))
-
 -- THE FIRST LOAD COMES ON TICK m + 1
 first-load : (st : State) (xs : List Act) → length (st .card .channels) ≡ 4 → Quiet st xs → (m : ℕ) → First st m → loadsIn st xs ≡ leb (suc m) (ticksIn xs)
-first-load st [] f q m r = sym (lt-leb (suc m) 0 (omega arith))
+first-load st [] f q m r = sym (leb·suc-zero m)
 first-load st (Tick event ∷ xs) f q zero r = rw (loads-told st (Tick event), next-loads st r) (sym (le-leb 1 (suc (ticksIn xs)) (omega arith)))
 first-load st (Tick event ∷ xs) f q (suc m) r =
     let e = quiet-tick st event (q .0 .noTrigger) in
     rw (loads-told st (Tick event), next-waits st m r, no-trigger st (Tick event) (q .0 .noTrigger))
     (first-load (act st (Tick event)) xs (rw e (advanced-four st)) (q .1) m (subst (λ (z : State). First z m) (sym e) (next-first st m r))
-    ∙ leb-next (suc m) (ticksIn xs))
+    ∙ sym (leb·suc-suc (suc m) (ticksIn xs)))
 first-load st (Write start count ws ∷ xs) f q m r =
     let e = q .0 .noTrigger in
     rw (loads-told st (Write start count ws), no-trigger st (Write start count ws) e)
     (first-load (act st (Write start count ws)) xs (write-part 0 (omega arith) st start count ws f e .settled) (q .1) m
-    (same-first st (act st (Write start count ws)) m (write-counts st start count ws f e) r))
+    (same-first st (act st (Write start count ws)) m (λ c h. ap toStart (part-keeps c st _ (write-part c h st start count ws f e) .phase)) r))
 first-load st (Read start count ws ∷ xs) f q m r = first-load st xs f (q .1) m r
 first-load st (Reset ∷ xs) f q m r = absurd (true≢false (q .0 .noReset))
 
@@ -321,7 +289,7 @@ shortest-all s level (suc (suc zero)) h = omega arith
 shortest-all s level (suc (suc (suc zero))) h = omega arith
 shortest-all s level (suc (suc (suc (suc c)))) h = absurd (omega arith)
 
-module _ (st : State) (x : Act) (level : ℕ) (xs : List Act) (h : Pending st x level xs) where
+module _ (st : State) (x : Act) (level : ℕ) (xs : List Act) (h : LastTrigger st x level xs) where
   abbrev k : State
   k = act st x
 

@@ -28,7 +28,7 @@ use Rattle.channel.specs.declared.Phase.{Phase}
 use Rattle.channel.specs.declared.Phase.the-variants.{Rest, Counting, Running}
 use Rattle.channel.specs.declared.Channel.{Channel}
 use Rattle.channel.specs.Ramp.{place, enter, next, sampleAt, put, give, way, given, advance}
-use Rattle.channel.specs.Channel.{Side, side, with, word, firstOf, lead, rampOf, phaseOf, copied, load, start, countTo, tickAt, tickOf, countdown, triggered}
+use Rattle.channel.specs.Channel.{Side, side, with, word, firstOf, lead, loadsAt, rampOf, phaseOf, copied, load, start, countTo, tickAt, tickOf, countdown, triggered}
 use Rattle.course.proofs.Copies.{choose, copied-length}
 use Rattle.course.proofs.Tables.{Placed}
 use Rattle.course.proofs.Walk.{placed-enter, placed-next}
@@ -187,12 +187,12 @@ module _ (s : List ℕ) (w : Words s) (l : List ℕ) (c : ℕ) (inside : c < 4) 
 
   count-sound : (n : ℕ) (older : Ramp) → Countdown n older → SideSound (countTo (n - 1) older s l c ch)
   unfolding countTo
-  count-sound n older k = go (eqb (n - 1) 0) refl (eqb (n - 1) lead) refl
+  count-sound n older k = go (eqb (n - 1) 0) refl (loadsAt (n - 1)) refl
     where
       o : Moved
       o = advance l (firstOf c) (ch .loaded) older (ch .shown)
 
-      go : (a : Bool) → eqb (n - 1) 0 ≡ a → (b : Bool) → eqb (n - 1) lead ≡ b
+      go : (a : Bool) → eqb (n - 1) 0 ≡ a → (b : Bool) → loadsAt (n - 1) ≡ b
           → SideSound (cond a (side (start s l c ch) l) (cond b (load s l c ch (ch .level)) (side (with ch (Counting (record { 0 = n - 1 }) (o .ramp)) (o .shown)) l)))
       go true e b f = record { channel = start-sound; tables = t }
       go false e true f = load-sound (ch .level) (h .level)
@@ -228,9 +228,9 @@ module _ (s : List ℕ) (w : Words s) (l : List ℕ) (c : ℕ) (inside : c < 4) 
   -- AND SO DOES A TRIGGER
   pub strike-sound : (level : ℕ) → level < 32 → SideSound (triggered s l c ch level)
   unfolding triggered
-  strike-sound level g = go (eqb (countdown s c level) lead) refl
+  strike-sound level g = go (loadsAt (countdown s c level)) refl
     where
-      go : (b : Bool) → eqb (countdown s c level) lead ≡ b
+      go : (b : Bool) → loadsAt (countdown s c level) ≡ b
           → SideSound (cond b (load s l c ch level) (side (record { phase = Counting (record { 0 = countdown s c level }) (rampOf (ch .phase)); level = level; loaded = ch .loaded; shown = ch .shown }) l))
       go true e = load-sound level g
       go false e =

@@ -5,7 +5,6 @@ use mathlib.Core.Bool.{Bool, true, false, cond}
 use mathlib.Core.List.{List}
 use Prim.Native.Nat.{ℕ, _+_, _*_, _-_, _≤_, _<_}
 use native.Mathlib.Omega.{arith}
-use lib.Dec.{eqb}
 use lib.ListN.{length}
 use borrow.Author.Tests.{ne-eqb, eqb-true}
 use Rattle.slots.specs.declared.Holder.the-variants.{Level, Nobody}
@@ -19,7 +18,7 @@ use Rattle.channel.specs.declared.Phase.{Phase}
 use Rattle.channel.specs.declared.Phase.the-variants.{Rest, Counting, Running}
 use Rattle.channel.specs.declared.Channel.{Channel}
 use Rattle.channel.specs.Ramp.{next, given, advance}
-use Rattle.channel.specs.Channel.{Side, side, word, firstOf, lead, toStart, load, rampOf, phaseOf, countTo, tickAt, tickOf, countdown, triggered}
+use Rattle.channel.specs.Channel.{Side, side, word, firstOf, lead, toStart, loadsAt, load, rampOf, phaseOf, countTo, tickAt, tickOf, countdown, triggered}
 use Rattle.card.specs.declared.Card.{Card}
 use Rattle.card.specs.Card.{State, channelOf, onAll}
 use Rattle.card.specs.Trigger.{triggerOf}
@@ -27,7 +26,7 @@ use Rattle.card.specs.Tick.{advanced}
 use Rattle.course.specs.Points.{SameTable}
 use Rattle.card.proofs.Ticks.{trigger-settings}
 use Rattle.course.specs.Course as C
-use Rattle.course.proofs.Acts.{tick-elsewhere, trigger-elsewhere, run-length, untimed-table, untimed-ramp}
+use Rattle.course.proofs.Acts.{tick-elsewhere, trigger-elsewhere, run-length, untimed-table}
 use Rattle.course.proofs.Tables.{same-next, same-give}
 use Rattle.course.proofs.Walk.{placed-next}
 use Rattle.history.specs.History.{Act, Write, act, triggerBy}
@@ -37,19 +36,19 @@ use Rattle.history.specs.Countdowns.{justBefore, CountdownsSet, RampKept
 use Rattle.history.specs.Demand3.{sideAt}
 use Rattle.history.proofs.Channels.{ramp-sound}
 use Rattle.history.proofs.Turns.{Turn}
-use Rattle.history.proofs.Parts.{write-part}
+use Rattle.history.proofs.Parts.{write-part, part-keeps}
 use Rattle.history.proofs.Tracks.{TickTurn, tick-turn, tick-same, TriggerTurn, trigger-turn, trigger-same, trigger-is, before-room}
 
 -- ---- the countdowns
 
 pub triggered-counts : (s l : List ℕ) (c : ℕ) (ch : Channel) (level : ℕ) → toStart (triggered s l c ch level .channel .phase) ≡ countdown s c level
 unfolding triggered load
-triggered-counts s l c ch level = go (eqb (countdown s c level) lead) refl
+triggered-counts s l c ch level = go (loadsAt (countdown s c level)) refl
   where
     counting : Side
     counting = side (record { phase = Counting (record { 0 = countdown s c level }) (rampOf (ch .phase)); level = level; loaded = ch .loaded; shown = ch .shown }) l
 
-    go : (b : Bool) → eqb (countdown s c level) lead ≡ b → toStart (cond b (load s l c ch level) counting .channel .phase) ≡ countdown s c level
+    go : (b : Bool) → loadsAt (countdown s c level) ≡ b → toStart (cond b (load s l c ch level) counting .channel .phase) ≡ countdown s c level
     go true e = sym (eqb-true (countdown s c level) lead e)
     go false e = refl
 
@@ -205,10 +204,10 @@ write-keeps-ramp : (st : State) → Sound st → (start count : ℕ) (ws : List 
     → RampKept c st (act st (Write start count ws))
 write-keeps-ramp st h start count ws e c i =
     let p = write-part c i st start count ws (h .card .four) e in
-    let r = untimed-ramp c (sideAt st c) (p .acts) (p .none) in
+    let r = part-keeps c st (act st (Write start count ws)) p in
     record {
-      ramp = ap (λ (x : Side). rampOf (x .channel .phase)) (sym (p .runs)) ∙ ap rampOf (r .0);
-      loaded = ap (λ (x : Side). x .channel .loaded) (sym (p .runs)) ∙ r .1;
+      ramp = ap rampOf (r .phase);
+      loaded = r .loaded;
       table = λ n g. ap (λ (x : Side). word (x .tables) (firstOf c + n)) (sym (p .runs)) ∙ untimed-table c (sideAt st c) (p .acts) (p .none) (omega (arith, h .tables .many)) n g;
     }
 

@@ -32,12 +32,12 @@ but-settings c x s h =
     record {
       others = λ j d. refl;
       phase = refl;
-      pending = refl;
+      level = refl;
       loaded = refl;
       place = refl;
       counts = refl;
       active = refl;
-      trigger = refl;
+      pending = refl;
       tables = refl;
       settings = h;
     }
@@ -50,12 +50,12 @@ but-then c x y z p q =
     record {
       others = λ j d. q .others j d ∙ p .others j d;
       phase = q .phase ∙ p .phase;
-      pending = q .pending ∙ p .pending;
+      level = q .level ∙ p .level;
       loaded = q .loaded ∙ p .loaded;
       place = q .place ∙ p .place;
       counts = q .counts ∙ p .counts;
       active = q .active ∙ p .active;
-      trigger = q .trigger ∙ p .trigger;
+      pending = q .pending ∙ p .pending;
       tables = q .tables ∙ p .tables;
       settings = λ a d. q .settings a d ∙ p .settings a d;
     }
@@ -71,12 +71,12 @@ module _ (c : ℕ) (x : State) where
       record {
         others = λ j d. channel-other (x .card) c ch j d;
         phase = channel-either (x .card) c ch (λ y. y .phase ≡ channelOf (x .card) c .phase) p refl;
-        pending = channel-either (x .card) c ch (λ y. y .level ≡ channelOf (x .card) c .level) q refl;
+        level = channel-either (x .card) c ch (λ y. y .level ≡ channelOf (x .card) c .level) q refl;
         loaded = channel-either (x .card) c ch (λ y. y .loaded ≡ channelOf (x .card) c .loaded) r refl;
         place = channel-either (x .card) c ch (λ y. y .shown .place ≡ channelOf (x .card) c .shown .place) u refl;
         counts = channel-keeps (x .card) c ch (λ (k : Card). k .counts) refl;
         active = channel-keeps (x .card) c ch (λ (k : Card). k .active) refl;
-        trigger = channel-keeps (x .card) c ch (λ (k : Card). k .pending) refl;
+        pending = channel-keeps (x .card) c ch (λ (k : Card). k .pending) refl;
         tables = refl;
         settings = λ b d. refl;
       }

@@ -1,7 +1,7 @@
 -- When a channel loads: a tick takes one microsecond from its countdown, a trigger sets it, and it loads where that comes to 10. So what
 -- the card shows changes exactly where a load is told (`advanced-active`, `trigger-active`). Assumes nothing.
 use mathlib.Core.Path.{_≡_, refl, sym, ap, _∙_}
-use mathlib.Core.Bool.{Bool, true, false, _||_, cond}
+use mathlib.Core.Bool.{Bool, true, false, _||_, cond, or-true, or-false}
 use mathlib.Core.List.{List, [], _∷_, _++_}
 use Prim.Native.Nat.{ℕ, zero, suc, _+_, _-_, _<_}
 use native.Mathlib.Omega.{arith}
@@ -17,17 +17,18 @@ use Rattle.channel.specs.declared.Ramp.the-variants.{Still, Going}
 use Rattle.channel.specs.declared.Phase.{Phase}
 use Rattle.channel.specs.declared.Phase.the-variants.{Rest, Counting, Running}
 use Rattle.channel.specs.declared.Channel.{Channel}
-use Rattle.channel.specs.Ramp.{enter, next, given, advance}
-use Rattle.channel.specs.Channel.{word, with, movedOn, side, firstOf, lead, loadsAt, toStart, justLoaded, load, loadedFor, start, phaseOf, countTo, tickAt, countdown}
+use Rattle.channel.specs.Ramp.{enter, given, advance}
+use Rattle.channel.specs.Channel.{word, with, side, firstOf, lead, loadsAt, toStart, justLoaded, load, loadedFor, start, phaseOf, countTo, tickAt, countdown}
 use Rattle.card.specs.declared.Cause.{Cause}
 use Rattle.card.specs.declared.Card.{Card}
 use Rattle.card.specs.Card.{State, channelOf, withChannels, countOf, onSome}
 use Rattle.card.specs.Active.{cause}
 use Rattle.card.specs.Trigger.{counted, struck, triggerOf}
 use Rattle.card.specs.Tick.{advanced}
+use Rattle.course.proofs.Copies.{choose}
 use Rattle.history.specs.History.{Act, Tick, Write, Read, Reset, wordsDone}
-use Rattle.history.specs.Story.{Happening, Load, Sample, Output, Clear, Fresh, sample, byRamp, byStart, inPhase, byTrigger, byWord, byWords}
-use Rattle.history.specs.Active.{loadAmong, loadsBy, inTick, atTrigger, loadsBefore, loadsAtTrigger}
+use Rattle.history.specs.Story.{Happening, Load, Sample, Output, Clear, Fresh, byRamp, byStart, inPhase, byTrigger, byWord, byWords, inTick, atTrigger}
+use Rattle.history.specs.Active.{loadAmong, loadsBy, loadsByCounting, loadsBefore, loadsAtTrigger}
 use Rattle.history.proofs.Cards.{count-keeps}
 use Rattle.history.proofs.Tracks.{tick-turn, tick-same, trigger-turn, trigger-same}
 use Rattle.history.proofs.Countdowns.{triggered-counts}
@@ -43,28 +44,12 @@ some-none f e = some-same f (λ c. false) e
 
 pub some-one : (f : ℕ → Bool) (c : ℕ) → c < 4 → f c ≡ true → onSome f ≡ true
 some-one f zero h e = rw e
-some-one f (suc zero) h e = rw e (go (f 0))
-  where
-    go : (a : Bool) → a || true || f 2 || f 3 ≡ true
-    go true = refl
-    go false = refl
-some-one f (suc (suc zero)) h e = rw e (go (f 0 || f 1))
-  where
-    go : (a : Bool) → a || true || f 3 ≡ true
-    go true = refl
-    go false = refl
-some-one f (suc (suc (suc zero))) h e = rw e (go (f 0 || f 1 || f 2))
-  where
-    go : (a : Bool) → a || true ≡ true
-    go true = refl
-    go false = refl
+some-one f (suc zero) h e = rw (e, or-true (f 0))
+some-one f (suc (suc zero)) h e = rw (e, or-true (f 0 || f 1))
+some-one f (suc (suc (suc zero))) h e = rw (e, or-true (f 0 || f 1 || f 2))
 some-one f (suc (suc (suc (suc c)))) h e = absurd (omega arith)
 
 -- ---- the loads of an act
-
-or-none : (a : Bool) → a || false ≡ a
-or-none true = refl
-or-none false = refl
 
 or-swap : (a b c d : Bool) → a || b || (c || d) ≡ a || c || (b || d)
 or-swap true b c d = refl
@@ -105,7 +90,7 @@ loads-told st (Write start count ws) =
     some-same _ _
     (λ c h. load-append (atTrigger st (Write start count ws) c) (byWords c start (wordsDone st start count ws))
     ∙ ap (λ (b : Bool). loadAmong (atTrigger st (Write start count ws) c) || b) (words-load c start (wordsDone st start count ws))
-    ∙ or-none (loadAmong (atTrigger st (Write start count ws) c)))
+    ∙ or-false (loadAmong (atTrigger st (Write start count ws) c)))
 loads-told st (Read start count ws) = refl
 loads-told st Reset = refl
 
@@ -113,20 +98,15 @@ loads-told st Reset = refl
 
 module _ (s l : List ℕ) (c : ℕ) (ch : Channel) where
   -- samples are no loads
-  pub ramp-loads : (r : Ramp) → loadAmong (byRamp l c ch r) ≡ false
-  ramp-loads Still = refl
-  ramp-loads (Going w) = go (ltb 1 (w .wait .0))
-    where
-      go : (b : Bool) → loadAmong (cond b [] (sample l c ch (next l (firstOf c) (w .place)))) ≡ false
-      go true = refl
-      go false = refl
+  abbrev NoLoad : List Happening → Type 0
+  NoLoad hs = loadAmong hs ≡ false
 
-  pub start-loads : loadAmong (byStart s l c ch) ≡ false
-  start-loads = go (eqb (word s (enableAt c)) 1)
-    where
-      go : (b : Bool) → loadAmong (cond b (sample l c ch (enter l (firstOf c) 0)) []) ≡ false
-      go true = refl
-      go false = refl
+  pub ramp-loads : (r : Ramp) → NoLoad (byRamp l c ch r)
+  ramp-loads Still = refl
+  ramp-loads (Going w) = choose NoLoad (ltb 1 (w .wait .0)) _ _ refl refl
+
+  pub start-loads : NoLoad (byStart s l c ch)
+  start-loads = choose NoLoad (eqb (word s (enableAt c)) 1) _ _ refl refl
 
   -- A TICK LOADS WHERE THE COUNTDOWN REACHES 10
   pub tick-loads : (p : Phase) → loadAmong (inPhase p s l c ch) ≡ loadsAt (toStart p - 1)
@@ -149,11 +129,8 @@ module _ (s l : List ℕ) (c : ℕ) (ch : Channel) where
 
   start-counts : toStart (start s l c ch .phase) ≡ 0
   unfolding start
-  start-counts = go (eqb (word s (enableAt c)) 1) (given l (firstOf c) (ch .loaded) (lasting 1) (enter l (firstOf c) 0) (ch .shown))
-    where
-      go : (b : Bool) (m : Moved) → toStart (cond b (movedOn ch m) (with ch Rest (ch .shown)) .phase) ≡ 0
-      go true m = ramp-counts (m .ramp)
-      go false m = refl
+  start-counts = choose (λ (x : Channel). toStart (x .phase) ≡ 0) (eqb (word s (enableAt c)) 1) _ _
+      (ramp-counts (given l (firstOf c) (ch .loaded) (lasting 1) (enter l (firstOf c) 0) (ch .shown) .ramp)) refl
 
   -- A TICK TAKES ONE MICROSECOND FROM THE COUNTDOWN
   pub tick-counts : (p : Phase) → ch .phase ≡ p → toStart (tickAt p s l c ch .channel .phase) ≡ toStart p - 1
@@ -184,7 +161,7 @@ module _ (st : State) where
   counting-told c h = ap loadsAt (advanced-counts c h) ∙ sym (tick-loads (st .settings) (st .tables) c (channelOf (st .card) c) (channelOf (st .card) c .phase))
 
   -- A TICK SHOWS THE PENDING TRIGGER WHERE SOME CHANNEL LOADS BY COUNTING
-  pub advanced-active : advanced st .card .active ≡ cond (onSome (λ c. loadAmong (inTick st c))) (st .card .pending) (st .card .active)
+  pub advanced-active : advanced st .card .active ≡ cond (loadsByCounting st) (st .card .pending) (st .card .active)
   unfolding advanced
   advanced-active = ap (λ (b : Bool). cond b (st .card .pending) (st .card .active)) (some-same _ _ counting-told)
 

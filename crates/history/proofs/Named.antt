@@ -12,20 +12,20 @@ use Rattle.channel.specs.declared.Ramp.the-variants.{Going}
 use Rattle.channel.specs.declared.Phase.{Phase}
 use Rattle.channel.specs.declared.Phase.the-variants.{Rest, Counting, Running}
 use Rattle.channel.specs.declared.Channel.{Channel}
-use Rattle.channel.specs.Channel.{Side, side, loadsAt, load, loadedFor, rampOf, countdown, triggered}
+use Rattle.channel.specs.Channel.{Side, loadsAt, load, loadedFor, countdown, triggered}
 use Rattle.card.specs.declared.Cause.{Cause}
 use Rattle.card.specs.Card.{State, channelOf}
 use Rattle.card.specs.Trigger.{triggerOf}
 use Rattle.card.specs.Tick.{advanced}
 use Rattle.card.specs.Reset.{cardReset, resetOf}
-use Rattle.course.proofs.Acts.{tick-level, untimed-ramp}
+use Rattle.course.proofs.Copies.{choose}
+use Rattle.course.proofs.Acts.{tick-level}
 use Rattle.history.specs.History.{Act, Tick, Write, Read, Reset, act, acts, readBack, triggerBy}
 use Rattle.history.specs.Triggers.{eventBy}
-use Rattle.history.specs.Story.{Happening, Load, byRamp, byStart, inPhase, byTrigger}
+use Rattle.history.specs.Story.{Happening, Load, byRamp, byStart, inPhase, byTrigger, inTick, atTrigger}
 use Rattle.history.specs.Countdowns.{justBefore}
-use Rattle.history.specs.Demand3.{sideAt}
-use Rattle.history.specs.Active.{loadAmong, inTick, atTrigger, LoadsNamed}
-use Rattle.history.proofs.Parts.{write-part}
+use Rattle.history.specs.Active.{loadAmong, LoadsNamed}
+use Rattle.history.proofs.Parts.{write-part, part-keeps}
 use Rattle.history.proofs.Story.{four-fresh}
 use Rattle.history.proofs.Tracks.{tick-turn, tick-same, advanced-four, quiet-tick, trigger-turn, trigger-same, trigger-four, trigger-is}
 use Rattle.history.proofs.Loads.{some-one, ramp-loads, start-loads, advanced-active, advanced-pending, trigger-pending}
@@ -60,14 +60,7 @@ tick-levels st h =
 
 triggered-level : (s l : List ℕ) (c : ℕ) (ch : Channel) (level : ℕ) → triggered s l c ch level .channel .level ≡ level
 unfolding triggered load
-triggered-level s l c ch level = go (loadsAt (countdown s c level))
-  where
-    counting : Side
-    counting = side (record { phase = Counting (record { 0 = countdown s c level }) (rampOf (ch .phase)); level = level; loaded = ch .loaded; shown = ch .shown }) l
-
-    go : (b : Bool) → cond b (load s l c ch level) counting .channel .level ≡ level
-    go true = refl
-    go false = refl
+triggered-level s l c ch level = choose (λ (x : Side). x .channel .level ≡ level) (loadsAt (countdown s c level)) _ _ refl refl
 
 trigger-levels : (st : State) (level event : ℕ) → Levels (triggerOf st level event)
 trigger-levels st level event =
@@ -84,9 +77,7 @@ write-levels st start count ws e h =
     record {
       four = write-part 0 (omega arith) st start count ws (h .four) e .settled;
       same =
-          λ c i. let p = write-part c i st start count ws (h .four) e in
-          ap (λ (x : Side). x .channel .level) (sym (p .runs))
-          ∙ untimed-ramp c (sideAt st c) (p .acts) (p .none) .2
+          λ c i. part-keeps c st (act st (Write start count ws)) (write-part c i st start count ws (h .four) e) .level
           ∙ h .same c i
           ∙ sym (ap (λ (t : Cause × Cause). t .1 .level) (write-keeps st start count ws e));
     }

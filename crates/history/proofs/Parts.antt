@@ -1,4 +1,5 @@
--- A write that is no trigger is a few acts of each channel, and no tick (`write-part`). Assumes nothing.
+-- A write that is no trigger is a few acts of each channel, and no tick (`write-part`); it leaves phase, copy and pending level
+-- (`part-keeps`). Assumes nothing.
 use mathlib.Core.Path.{_≡_, refl, sym, ap, _∙_, subst}
 use mathlib.Core.Bool.{Bool, true, false, cond}
 use mathlib.Core.List.{List, [], _∷_, _++_}
@@ -15,6 +16,7 @@ use Rattle.card.specs.Card.{State, state, channelOf, withChannel, withCount}
 use Rattle.transfer.specs.Word.{outputTo, overflowCleared}
 use Rattle.transfer.specs.Transfer.{writeOf}
 use Rattle.course.specs.Course as C
+use Rattle.course.proofs.Acts.{untimed-ramp}
 use Rattle.course.proofs.Appends.{run-append, ticks-append}
 use Rattle.history.specs.History.{wordsDone, manualAmong}
 use Rattle.history.specs.Effects.{Does, Keeps, Outputs, ClearsOverflow, ClearsCount, Erases, Idles, Triggers}
@@ -128,3 +130,18 @@ write-part c h =
     (λ st a v vs z p r f q. let y = none-first a v vs q in
     let w = word-part c h st f a v _ (y .0) (passed-does st a v p) in
     then c st _ z w (r (w .settled) (y .1)))
+
+-- what acts without a tick leave of a channel
+pub record PartKept (c : ℕ) (x y : State) : Type 0 where
+  pub phase : channelOf (y .card) c .phase ≡ channelOf (x .card) c .phase
+  pub loaded : channelOf (y .card) c .loaded ≡ channelOf (x .card) c .loaded
+  pub level : channelOf (y .card) c .level ≡ channelOf (x .card) c .level
+
+pub part-keeps : (c : ℕ) (x y : State) → Part c x y → PartKept c x y
+part-keeps c x y p =
+    let r = untimed-ramp c (sideAt x c) (p .acts) (p .none) in
+    record {
+      phase = ap (λ (z : Side). z .channel .phase) (sym (p .runs)) ∙ r .0;
+      loaded = ap (λ (z : Side). z .channel .loaded) (sym (p .runs)) ∙ r .1;
+      level = ap (λ (z : Side). z .channel .level) (sym (p .runs)) ∙ r .2;
+    }

@@ -21,7 +21,6 @@ use Rattle.slots.proofs.Fills.{filled-length, filled-in}
 use Rattle.slots.proofs.Holders.{level-held}
 use Rattle.channel.specs.declared.Channel.{Channel}
 use Rattle.channel.specs.Channel.{Side, word, resetChannel, tickOf, triggered}
-use Rattle.card.specs.declared.Cause.{Cause}
 use Rattle.card.specs.declared.Card.{Card}
 use Rattle.card.specs.Card.{State, state, All, noChannel, channelOf, withChannel, countOf, withCount, withChannels, onAll}
 use Rattle.card.specs.Active.{cause, someLoaded}
@@ -31,6 +30,7 @@ use Rattle.card.specs.Reset.{tablesReset, cardReset, resetOf}
 use Rattle.transfer.specs.declared.Effect.the-variants.{Keep, Output, Erase, Nothing}
 use Rattle.transfer.specs.Word.{effectOf, outputTo, overflowCleared, performOf}
 use Rattle.transfer.specs.Transfer.{processedOf, writeOf}
+use Rattle.course.proofs.Copies.{choose}
 use Rattle.history.specs.History.{Act, Tick, Write, Read, Reset, acts, Each, Words16}
 use Rattle.history.specs.Sound.{Tables, ChannelSound, CauseSound, Sound, Reachable}
 use Rattle.history.proofs.Addresses.{slot-register}
@@ -97,10 +97,6 @@ count-small k level n h g j = go (ltb level 32)
 grown-word : (n : ℕ) → grown n < 65536
 grown-word n = mod-lt (n + 1) (omega arith)
 
-either-sound : (b : Bool) {p a : Cause} → CauseSound p → CauseSound a → CauseSound (cond b p a)
-either-sound true p a = p
-either-sound false p a = a
-
 module _ (st : State) (h : Sound st) where
   advanced-sound : Sound (advanced st)
   unfolding advanced
@@ -115,7 +111,7 @@ module _ (st : State) (h : Sound st) where
               channels = a .channels;
               many = h .card .many;
               counts = h .card .counts;
-              active = either-sound (someLoaded (withChannels (st .card) (moved st .channels))) (h .card .pending) (h .card .active);
+              active = choose CauseSound (someLoaded (withChannels (st .card) (moved st .channels))) _ _ (h .card .pending) (h .card .active);
               pending = h .card .pending;
             };
       }
@@ -136,7 +132,7 @@ module _ (st : State) (h : Sound st) where
               many = count-many k level (grown (countOf k level)) ∙ h .card .many;
               counts = count-small k level (grown (countOf k level)) (grown-word (countOf k level)) (h .card .counts);
               active =
-                  either-sound (someLoaded (keeping (counted k level) (cause level event))) (record { level = i; event = j })
+                  choose CauseSound (someLoaded (keeping (counted k level) (cause level event))) (cause level event) (counted k level .active) (record { level = i; event = j })
                   (rw (count-keeps k level (grown (countOf k level)) (λ (x : Card). x .active) refl) (h .card .active));
               pending = record { level = i; event = j };
             };

@@ -26,7 +26,7 @@ use Rattle.channel.specs.declared.Phase.{Phase}
 use Rattle.channel.specs.declared.Phase.the-variants.{Rest, Counting, Running}
 use Rattle.channel.specs.declared.Channel.{Channel}
 use Rattle.channel.specs.Ramp.{place, enter, next, sampleAt, put, way, given, advance}
-use Rattle.channel.specs.Channel.{word, with, firstOf, lead, load, loadedFor, start, side, rampOf, phaseOf, countTo, tickAt, countdown, triggered, resetChannel}
+use Rattle.channel.specs.Channel.{word, with, firstOf, loadsAt, load, loadedFor, start, side, rampOf, phaseOf, countTo, tickAt, countdown, triggered, resetChannel}
 use Rattle.card.specs.declared.Card.{Card}
 use Rattle.card.specs.Card.{State, channelOf, withChannel}
 use Rattle.card.specs.Trigger.{triggerOf, acceptedOf, onEvent}
@@ -110,7 +110,7 @@ module _ (s l : List ℕ) (c : ℕ) (ch : Channel) (x : Told) (r : Right ch x) w
   tick-right : (p : Phase) → Right (tickAt p s l c ch .channel) (told x (inPhase p s l c ch))
   unfolding tickAt countTo
   tick-right Rest = r
-  tick-right (Counting n older) = go (eqb (n .0 - 1) 0) (eqb (n .0 - 1) lead)
+  tick-right (Counting n older) = go (eqb (n .0 - 1) 0) (loadsAt (n .0 - 1))
     where
       o : Moved
       o = advance l (firstOf c) (ch .loaded) older (ch .shown)
@@ -125,7 +125,7 @@ module _ (s l : List ℕ) (c : ℕ) (ch : Channel) (x : Told) (r : Right ch x) w
 
   trigger-right : (level : ℕ) → Right (triggered s l c ch level .channel) (told x (byTrigger (Level level) s c))
   unfolding triggered
-  trigger-right level = go (eqb (countdown s c level) lead)
+  trigger-right level = go (loadsAt (countdown s c level))
     where
       counting : Channel
       counting = record { phase = Counting (record { 0 = countdown s c level }) (rampOf (ch .phase)); level = level; loaded = ch .loaded; shown = ch .shown }

@@ -201,6 +201,12 @@ trigger-is st (Write start count ws) level e = manual-write st start count ws le
 trigger-is st (Read start count ws) level e = let z : _≡_ {A = ℕ} 0 1 = cc in absurd (omega arith)
 trigger-is st Reset level e = let z : _≡_ {A = ℕ} 0 1 = cc in absurd (omega arith)
 
+pub before-settings : (st : State) (x : Act) → justBefore st x .settings ≡ st .settings
+before-settings st (Tick event) = advanced-settings st
+before-settings st (Write start count ws) = refl
+before-settings st (Read start count ws) = refl
+before-settings st Reset = refl
+
 pub before-room : (st : State) (x : Act) → length (justBefore st x .tables) ≡ length (st .tables)
 before-room st (Tick event) = advanced-room st
 before-room st (Write start count ws) = refl

@@ -10,13 +10,13 @@ use Rattle.slots.specs.declared.Holder.{Holder}
 use Rattle.slots.specs.declared.Holder.the-variants.{Level, Nobody}
 use Rattle.channel.specs.Channel.{word, lead, loadedFor}
 use Rattle.card.specs.declared.Cause.{Cause}
-use Rattle.card.specs.Card.{State, channelOf, onSome}
+use Rattle.card.specs.Card.{State, onSome}
 use Rattle.card.specs.Active.{cause}
 use Rattle.card.specs.Tick.{advanced}
 use Rattle.card.specs.Reset.{resetOf}
 use Rattle.history.specs.History.{Act, Tick, Write, Read, Reset, act, acts, readBack, triggerBy, Quiet, ticksIn}
 use Rattle.history.specs.Triggers.{eventBy}
-use Rattle.history.specs.Story.{Happening, Load, Sample, Output, Clear, Fresh, byTick, byTrigger, happens}
+use Rattle.history.specs.Story.{Happening, Load, Sample, Output, Clear, Fresh, inTick, atTrigger, happens}
 use Rattle.history.specs.Countdowns.{justBefore}
 
 -- ---- loads
@@ -38,24 +38,22 @@ abbrev pub loadsIn : State → List Act → Bool
 loadsIn st [] = false
 loadsIn st (x ∷ xs) = loadsBy st x || loadsIn (act st x) xs
 
--- what happens on channel c as a tick advances it, and at an act's trigger
-abbrev pub inTick : State → ℕ → List Happening
-inTick st c = byTick (st .settings) (st .tables) c (channelOf (st .card) c)
+-- some channel loads by counting
+abbrev pub loadsByCounting : State → Bool
+loadsByCounting st = onSome (λ c. loadAmong (inTick st c))
 
-abbrev pub atTrigger : State → Act → ℕ → List Happening
-atTrigger st x c = byTrigger (triggerBy st x) (st .settings) c
-
--- some channel loads before the trigger that x is: by counting, since 'a tick first advances every channel, then takes its event'
+-- some channel loads in x before the trigger that x is
 abbrev pub loadsBefore : State → Act → Bool
-loadsBefore st (Tick event) = onSome (λ c. loadAmong (inTick st c))
+loadsBefore st (Tick event) = loadsByCounting st
 loadsBefore st (Write start count ws) = false
 loadsBefore st (Read start count ws) = false
 loadsBefore st Reset = false
 
--- some channel loads after it: at the trigger itself, or in the acts xs that follow
+-- some channel loads at the trigger itself
 abbrev pub loadsAtTrigger : State → Act → Bool
 loadsAtTrigger st x = onSome (λ c. loadAmong (atTrigger st x c))
 
+-- some channel loads after it: at the trigger itself, or in the acts xs that follow
 abbrev pub loadsAfter : State → Act → List Act → Bool
 loadsAfter st x xs = loadsAtTrigger st x || loadsIn (act st x) xs
 
@@ -69,7 +67,8 @@ activeIn st = cause (readBack st 0x4210) (readBack st 0x4211)
 abbrev pub atReset : Cause
 atReset = cause 0 0xFE
 
--- what an act leaves of `old`: a trigger takes its place if some channel has loaded since, a reset always
+-- what an act leaves of `old`: a trigger takes its place if some channel has loaded since, a reset always. A load after a later trigger
+-- counts too: that trigger then takes the place in its turn
 abbrev pub activeAfter : Holder → Act → Bool → Cause → Cause
 activeAfter (Level l) x loaded old = cond loaded (cause l (eventBy x)) old
 activeAfter Nobody (Tick event) loaded old = old
@@ -86,20 +85,20 @@ lastLoaded st (x ∷ xs) old = lastLoaded (act st x) xs (activeAfter (triggerBy 
 unfoldable pub ActiveRight : Type 0
 ActiveRight = (s l : List ℕ) (xs : List Act) → activeIn (acts (resetOf s l) xs) ≡ lastLoaded (resetOf s l) xs atReset
 
--- ---- a trigger on its way
+-- ---- the last trigger
 
 -- In any state st the act x is an accepted trigger of a level; after it come the acts xs, no trigger accepted and no reset among them.
-abbrev pub Pending : State → Act → ℕ → List Act → Type 0
-Pending st x level xs = (triggerBy st x ≡ Level level) × Quiet (act st x) xs
+abbrev pub LastTrigger : State → Act → ℕ → List Act → Type 0
+LastTrigger st x level xs = (triggerBy st x ≡ Level level) × Quiet (act st x) xs
 
 -- 'A trigger replaced before any channel loads never shows there.'
 pub record NeverShows : Type 0 where
   -- until a channel loads: what was shown before it
-  pub meanwhile : (st : State) (x : Act) (level : ℕ) (xs : List Act) → Pending st x level xs → loadsAfter st x xs ≡ false
+  pub meanwhile : (st : State) (x : Act) (level : ℕ) (xs : List Act) → LastTrigger st x level xs → loadsAfter st x xs ≡ false
       → activeIn (acts (act st x) xs) ≡ activeIn (justBefore st x)
   -- a trigger y then takes its place, and no channel loads before y; whatever acts ys come, they show the last trigger from y on after which
   -- some channel has loaded, and where there is none what was shown before x
-  pub afterwards : (st : State) (x : Act) (level : ℕ) (xs : List Act) → Pending st x level xs → loadsAfter st x xs ≡ false
+  pub afterwards : (st : State) (x : Act) (level : ℕ) (xs : List Act) → LastTrigger st x level xs → loadsAfter st x xs ≡ false
       → (y : Act) (l : ℕ) → triggerBy (acts (act st x) xs) y ≡ Level l → loadsBefore (acts (act st x) xs) y ≡ false → (ys : List Act)
       → activeIn (acts (acts (act st x) xs) (y ∷ ys)) ≡ lastLoaded (acts (act st x) xs) (y ∷ ys) (activeIn (justBefore st x))
 
@@ -115,20 +114,20 @@ firstLoad s level = shortest s level - lead
 -- 'at the first load that follows a trigger'
 pub record ShownOnTime : Type 0 where
   -- that tick is the first load's
-  pub loads : (st : State) (x : Act) (level : ℕ) (xs : List Act) → Pending st x level xs
+  pub loads : (st : State) (x : Act) (level : ℕ) (xs : List Act) → LastTrigger st x level xs
       → loadsAfter st x xs ≡ leb (firstLoad (act st x .settings) level) (ticksIn xs)
   -- before it the words are what they were, from it on they are the trigger's
-  pub shows : (st : State) (x : Act) (level : ℕ) (xs : List Act) → Pending st x level xs
+  pub shows : (st : State) (x : Act) (level : ℕ) (xs : List Act) → LastTrigger st x level xs
       → activeIn (acts (act st x) xs) ≡ cond (leb (firstLoad (act st x .settings) level) (ticksIn xs)) (cause level (eventBy x)) (activeIn (justBefore st x))
 
--- ---- the ramp that is loaded
+-- ---- what is loaded
 
--- It names the ramp that is loaded: after any history of a card that was reset, whatever a channel loads, by counting or at a trigger, is
--- table, scale factor and offset for the level that 0x4210 then shows
-pub record NamesTheLoaded (st : State) : Type 0 where
+-- After any history of a card that was reset, whatever a channel loads, by counting or at a trigger, is table, scale factor and offset for
+-- the level that 0x4210 then shows; a channel that has yet to load may hold those of an older level
+pub record LoadNamed (st : State) : Type 0 where
   pub counting : (c : ℕ) → c < 4 → loadAmong (inTick st c) ≡ true → inTick st c ≡ Load (loadedFor (st .settings) c (readBack (advanced st) 0x4210)) ∷ []
   pub trigger : (x : Act) (c : ℕ) → c < 4 → loadAmong (atTrigger st x c) ≡ true
       → atTrigger st x c ≡ Load (loadedFor (st .settings) c (readBack (act st x) 0x4210)) ∷ []
 
 unfoldable pub LoadsNamed : Type 0
-LoadsNamed = (s l : List ℕ) (xs : List Act) → NamesTheLoaded (acts (resetOf s l) xs)
+LoadsNamed = (s l : List ℕ) (xs : List Act) → LoadNamed (acts (resetOf s l) xs)

@@ -25,10 +25,10 @@ pub record Demand2 : Type 0 where
   pub counts : CountsRight
   pub triggers : TriggerRule
   pub countdowns : CountdownsSet
-  -- 0x4210 and 0x4211: which trigger they show, when it shows, and that it is the one whose ramp is loaded
+  -- 0x4210 and 0x4211: which trigger they show, when they change, and that every load is for the level then shown
   pub active : ActiveRight
   pub replaced : NeverShows
-  pub time : ShownOnTime
+  pub onTime : ShownOnTime
   pub named : LoadsNamed
   -- 0x4100 to 0x41FF
   pub image : ImageRight

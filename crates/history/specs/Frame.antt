@@ -16,12 +16,12 @@ InBlock c a = (base c ≤ a) × (a < base c + 0x1000)
 pub record But (c : ℕ) (x y : State) : Type 0 where
   pub others : (j : ℕ) → (j ≡ c → ⊥) → channelOf (y .card) j ≡ channelOf (x .card) j
   pub phase : channelOf (y .card) c .phase ≡ channelOf (x .card) c .phase
-  pub pending : channelOf (y .card) c .level ≡ channelOf (x .card) c .level
+  pub level : channelOf (y .card) c .level ≡ channelOf (x .card) c .level
   pub loaded : channelOf (y .card) c .loaded ≡ channelOf (x .card) c .loaded
   pub place : channelOf (y .card) c .shown .place ≡ channelOf (x .card) c .shown .place
   pub counts : y .card .counts ≡ x .card .counts
   pub active : y .card .active ≡ x .card .active
-  pub trigger : y .card .pending ≡ x .card .pending
+  pub pending : y .card .pending ≡ x .card .pending
   pub tables : y .tables ≡ x .tables
   pub settings : (a : ℕ) → (InBlock c a → ⊥) → word (y .settings) a ≡ word (x .settings) a
 

@@ -77,10 +77,17 @@ abbrev pub byWords : ℕ → ℕ → List ℕ → List Happening
 byWords c a [] = []
 byWords c a (v ∷ vs) = byWord c a v ++ byWords c (a + 1) vs
 
+-- as a tick advances the channel, and at an act's trigger
+abbrev pub inTick : State → ℕ → List Happening
+inTick st c = byTick (st .settings) (st .tables) c (channelOf (st .card) c)
+
+abbrev pub atTrigger : State → Act → ℕ → List Happening
+atTrigger st x c = byTrigger (triggerBy st x) (st .settings) c
+
+-- 'a tick first advances every channel, then takes its event'
 abbrev pub happens : ℕ → State → Act → List Happening
-happens c st (Tick event) =
-    byTick (st .settings) (st .tables) c (channelOf (st .card) c) ++ byTrigger (triggerBy st (Tick event)) (st .settings) c
-happens c st (Write start count ws) = byTrigger (triggerBy st (Write start count ws)) (st .settings) c ++ byWords c start (wordsDone st start count ws)
+happens c st (Tick event) = inTick st c ++ atTrigger st (Tick event) c
+happens c st (Write start count ws) = atTrigger st (Write start count ws) c ++ byWords c start (wordsDone st start count ws)
 happens c st (Read start count ws) = []
 happens c st Reset = Fresh ∷ []
 
