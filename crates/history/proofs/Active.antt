@@ -18,7 +18,6 @@ use Rattle.card.specs.Card.{State, channelOf}
 use Rattle.card.specs.Active.{cause}
 use Rattle.card.specs.Tick.{advanced}
 use Rattle.card.specs.Reset.{cardReset, resetOf}
-use Rattle.card.proofs.Ticks.{trigger-settings}
 use Rattle.transfer.specs.Word.{outputTo, overflowCleared}
 use Rattle.transfer.specs.Transfer.{writeOf}
 use Rattle.course.proofs.Copies.{choose}
@@ -33,7 +32,7 @@ use Rattle.history.proofs.Cards.{channel-keeps, count-keeps}
 use Rattle.history.proofs.Effects.{passed-does}
 use Rattle.history.proofs.Writing.{write-by}
 use Rattle.history.proofs.Parts.{none-first, write-part, part-keeps}
-use Rattle.history.proofs.Tracks.{advanced-four, quiet-tick, trigger-four, trigger-is, before-settings}
+use Rattle.history.proofs.Tracks.{advanced-four, quiet-tick, trigger-four, trigger-is, struck-settings, before-settings}
 use Rattle.history.proofs.Countdowns.{countdowns-set}
 use Rattle.history.proofs.Loads.{some-none, some-one, loads-told, advanced-counts, tick-loads, advanced-active, advanced-pending, trigger-loads, trigger-active, trigger-pending}
 
@@ -66,9 +65,6 @@ before-active st (Read start count ws) = refl
 before-active st Reset = refl
 
 module _ (st : State) (x : Act) (level : ℕ) (e : triggerBy st x ≡ Level level) where
-  act-settings : act st x .settings ≡ st .settings
-  act-settings = ap (λ (z : State). z .settings) (trigger-is st x level e) ∙ trigger-settings (justBefore st x) level (eventBy x) ∙ before-settings st x
-
   -- an act that is a trigger keeps it, and shows it where some channel loads at once
   kept-pending : act st x .card .pending ≡ cause level (eventBy x)
   kept-pending = ap (λ (z : State). z .card .pending) (trigger-is st x level e) ∙ trigger-pending (justBefore st x) level (eventBy x)
@@ -86,6 +82,14 @@ or-else true false t a = refl
 or-else false true t a = refl
 or-else false false t a = refl
 
+-- where a later one shows, what was before does not matter
+settled : (t p a : Cause) (before once later : Bool)
+    → cond (once || later) t (cond (before || once || later) p a) ≡ cond (once || later) t (cond before p a)
+settled t p a before true later = refl
+settled t p a before false true = refl
+settled t p a true false false = refl
+settled t p a false false false = refl
+
 -- an act, and whether some channel loads after it
 act-shown : (st : State) (x : Act) (later : Bool)
     → cond later (act st x .card .pending) (act st x .card .active)
@@ -102,15 +106,6 @@ act-shown st x later =
     a : Cause
     a = st .card .active
 
-    -- a trigger
-    cases : (t : Cause) (before once later : Bool)
-        → cond later t (cond once t (cond before p a)) ≡ cond (once || later) t (cond (before || once || later) p a)
-    cases t before true true = refl
-    cases t before true false = refl
-    cases t before false true = refl
-    cases t true false false = refl
-    cases t false false false = refl
-
     still : (later : Bool) (y : Card) → causes y ≡ causes (st .card) → cond later (y .pending) (y .active) ≡ cond later p a
     still later y e = ap (λ (t : Cause × Cause). cond later (t .1) (t .0)) e
 
@@ -126,7 +121,8 @@ act-shown st x later =
         ≡ activeAfter (triggerBy st x) x (loadsAtTrigger st x || later) (cond (loadsBefore st x || loadsAtTrigger st x || later) p a)
     go (Level l) e =
         rw (kept-pending st x l e, shown-active st x l e, before-active st x)
-        (cases (cause l (eventBy x)) (loadsBefore st x) (loadsAtTrigger st x) later
+        (or-else later (loadsAtTrigger st x) (cause l (eventBy x)) (cond (loadsBefore st x) p a)
+        ∙ sym (settled (cause l (eventBy x)) p a (loadsBefore st x) (loadsAtTrigger st x) later)
         ∙ ap (λ (h : Holder). activeAfter h x (loadsAtTrigger st x || later) (cond (loadsBefore st x || loadsAtTrigger st x || later) p a)) (sym e))
     go Nobody e = quiet x e ∙ rw (e, or-false (loadsBefore st x))
 
@@ -192,9 +188,7 @@ module _ (st : State) (x : Act) (level : ℕ) (xs : List Act) (h : LastTrigger s
     where
       go : (r : Holder) → r ≡ Level l → (before : Bool) → before ≡ false → (once later : Bool)
           → activeAfter r y (once || later) (cond (before || once || later) (z .card .pending) (z .card .active)) ≡ activeAfter r y (once || later) (z .card .active)
-      go r f before g true later = rw f
-      go r f before g false true = rw f
-      go r f before g false false = rw (f, g)
+      go r f before g once later = rw f (settled (cause l (eventBy y)) (z .card .pending) (z .card .active) before once later ∙ rw g)
 
 -- A TRIGGER THAT IS REPLACED BEFORE ANY CHANNEL LOADS NEVER SHOWS
 pub never-shows : NeverShows
@@ -304,7 +298,7 @@ module _ (st : State) (x : Act) (level : ℕ) (xs : List Act) (h : LastTrigger s
   at-once c =
       ap (λ (r : Holder). loadAmong (byTrigger r (st .settings) c)) (h .0)
       ∙ trigger-loads (st .settings) c level
-      ∙ ap (λ (s : List ℕ). loadsAt (countdown s c level)) (sym (act-settings st x level (h .0)))
+      ∙ ap (λ (s : List ℕ). loadsAt (countdown s c level)) (sym (struck-settings st x level (h .0) ∙ before-settings st x))
 
   -- some delay is 10 or less: the load at the trigger itself
   now : m ≤ 10 → loadsAtTrigger st x ≡ true

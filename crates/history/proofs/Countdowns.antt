@@ -24,7 +24,6 @@ use Rattle.card.specs.Card.{State, channelOf, onAll}
 use Rattle.card.specs.Trigger.{triggerOf}
 use Rattle.card.specs.Tick.{advanced}
 use Rattle.course.specs.Points.{SameTable}
-use Rattle.card.proofs.Ticks.{trigger-settings}
 use Rattle.course.specs.Course as C
 use Rattle.course.proofs.Acts.{tick-elsewhere, trigger-elsewhere, run-length, untimed-table}
 use Rattle.course.proofs.Tables.{same-next, same-give}
@@ -37,7 +36,7 @@ use Rattle.history.specs.Demand3.{sideAt}
 use Rattle.history.proofs.Channels.{ramp-sound}
 use Rattle.history.proofs.Turns.{Turn}
 use Rattle.history.proofs.Parts.{write-part, part-keeps}
-use Rattle.history.proofs.Tracks.{TickTurn, tick-turn, tick-same, TriggerTurn, trigger-turn, trigger-same, trigger-is, before-room}
+use Rattle.history.proofs.Tracks.{TickTurn, tick-turn, tick-same, TriggerTurn, trigger-turn, trigger-same, trigger-is, struck-settings, before-room}
 
 -- ---- the countdowns
 
@@ -54,9 +53,7 @@ triggered-counts s l c ch level = go (loadsAt (countdown s c level)) refl
 
 -- the settings that a trigger leaves
 same-countdown : (st : State) (x : Act) (level c : ℕ) → triggerBy st x ≡ Level level → countdown (act st x .settings) c level ≡ countdown (justBefore st x .settings) c level
-same-countdown st x level c e =
-    ap (λ (z : State). countdown (z .settings) c level) (trigger-is st x level e)
-    ∙ ap (λ (s : List ℕ). countdown s c level) (trigger-settings (justBefore st x) level (eventBy x))
+same-countdown st x level c e = ap (λ (s : List ℕ). countdown s c level) (struck-settings st x level e)
 
 -- the channel that a trigger leaves
 struck-channel : (st : State) (x : Act) (level : ℕ) → triggerBy st x ≡ Level level → (c : ℕ) (h : c < 4)

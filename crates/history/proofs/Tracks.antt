@@ -13,7 +13,7 @@ use Rattle.card.specs.Card.{State, channelOf, withChannels, countOf, onAll}
 use Rattle.card.specs.Trigger.{struck, triggerOf}
 use Rattle.card.specs.Tick.{advanced}
 use Rattle.word.specs.Word.{grown}
-use Rattle.card.proofs.Ticks.{advanced-settings}
+use Rattle.card.proofs.Ticks.{advanced-settings, trigger-settings}
 use Rattle.course.specs.Course as C
 use Rattle.course.proofs.Acts.{tick-elsewhere, trigger-elsewhere, run-length, held-next}
 use Rattle.course.proofs.Appends.{run-append, ticks-append, held-later, before-later}
@@ -200,6 +200,9 @@ trigger-is st (Tick event) level e = rw (advanced-settings st, e)
 trigger-is st (Write start count ws) level e = manual-write st start count ws level e
 trigger-is st (Read start count ws) level e = let z : _≡_ {A = ℕ} 0 1 = cc in absurd (omega arith)
 trigger-is st Reset level e = let z : _≡_ {A = ℕ} 0 1 = cc in absurd (omega arith)
+
+pub struck-settings : (st : State) (x : Act) (level : ℕ) → triggerBy st x ≡ Level level → act st x .settings ≡ justBefore st x .settings
+struck-settings st x level e = ap (λ (z : State). z .settings) (trigger-is st x level e) ∙ trigger-settings (justBefore st x) level (eventBy x)
 
 pub before-settings : (st : State) (x : Act) → justBefore st x .settings ≡ st .settings
 before-settings st (Tick event) = advanced-settings st
