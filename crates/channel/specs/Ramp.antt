@@ -1,7 +1,8 @@
--- 'One tick, one microsecond': a ramp on its way through its table, whose first word is at `first` of the lent words.
-use mathlib.Core.Bool.{cond}
+-- 'One tick, one microsecond': a ramp on its way through its table, whose first word is at `first` of the lent words. What a ramp moves
+-- is its amplitude; what becomes of it is in `specs/Signal`.
+use mathlib.Core.Bool.{Bool, _&&_, cond}
 use mathlib.Core.List.{List}
-use Prim.Native.Nat.{ℕ, _+_, _-_}
+use Prim.Native.Nat.{ℕ, _+_, _-_, _/_, _%_}
 use lib.Dec.{ltb, eqb}
 use Rattle.word.specs.Word.{grown}
 use Rattle.word.specs.Table.{valueAt, stepAt, isEnd}
@@ -14,7 +15,9 @@ use Rattle.channel.specs.declared.Way.{Way}
 use Rattle.channel.specs.declared.Loaded.{Loaded}
 use Rattle.channel.specs.declared.Moved.{Moved}
 use Rattle.channel.specs.declared.Ramp.{Ramp}
-use Rattle.channel.specs.declared.Ramp.the-variants.{Still, Going}
+use Rattle.channel.specs.declared.Ramp.the-variants.{Still, Going, Free}
+use Rattle.channel.specs.declared.Gave.{Gave}
+use Rattle.channel.specs.declared.Gave.the-variants.{NoSample, OfRamp, OfFreeRun}
 
 -- a sample's place: segment n, m samples left
 abbrev pub place : ℕ → ℕ → Place
@@ -35,10 +38,14 @@ sampleAt w first l p =
     (sampleOf (l .scale) (valueAt w first (p .segment)) (valueAt w first (p .segment)) 0 0 (l .offset))
     (sampleOf (l .scale) (valueAt w first (p .segment)) (valueAt w first (p .segment + 1)) (stepAt w first (p .segment)) (p .left .0) (l .offset))
 
--- 'outside −32768..32767 the output stays and A39 grows by 1'; 'A33 and A34 show the last sample's n and m'
+-- a sum in range, or where it overflows what was held just before
+abbrev pub hold : Sum → ℕ → ℕ
+hold (Word v) before = v
+hold Overflow before = before
+
+-- 'the ramp's sample becomes an amplitude', 'an amplitude overflow keeps the previous amplitude'; 'A33 and A34 show the last sample's n and m'
 abbrev pub put : Sum → Place → Shown → Shown
-put (Word v) p s = record { output = v; place = p; overflow = s .overflow }
-put Overflow p s = record { output = s .output; place = p; overflow = grown (s .overflow) }
+put x p s = record { amplitude = hold x (s .amplitude); place = p }
 
 abbrev pub give : List ℕ → ℕ → Loaded → Place → Shown → Shown
 give w first l p s = put (sampleAt w first l p) p s
@@ -47,14 +54,39 @@ give w first l p s = put (sampleAt w first l p) p s
 abbrev pub way : Place → ℕ → ℕ → Way
 way p wait period = record { place = p; wait = record { 0 = wait }; period = record { 0 = period } }
 
--- the sample is given; at the end point the ramp rests, elsewhere the next comes a period later
-unfoldable pub given : List ℕ → ℕ → Loaded → ℕ → Place → Shown → Moved
-given w first l period p s = record { ramp = cond (eqb (p .left .0) 0) Still (Going (way p period period)); shown = give w first l p s }
+-- A01: 'bit 0 sine, bit 2 free run (without bit 0 it does nothing)'
+abbrev pub isSine : ℕ → Bool
+isSine mode = eqb (mode % 2) 1
 
--- one tick of a ramp
+abbrev pub freeRuns : ℕ → Bool
+freeRuns mode = isSine mode && eqb (mode / 4 % 2) 1
+
+-- 'at the ramp's end the output holds, or under free run goes on every 10 ticks'
+unfoldable pub ended : Loaded → ℕ → Place → Ramp
+ended l period p = cond (freeRuns (l .tone .mode)) (Free (way p period period)) Still
+
+-- the sample is given, the ramp's first or a later one; at the end point the ramp rests or free-runs, elsewhere the next comes a period later
+unfoldable pub given : Bool → List ℕ → ℕ → Loaded → ℕ → Place → Shown → Moved
+given isFirst w first l period p s =
+    record {
+      ramp = cond (eqb (p .left .0) 0) (ended l period p) (Going (way p period period));
+      shown = give w first l p s;
+      gave = OfRamp isFirst (sampleAt w first l p);
+    }
+
+-- no sample yet: a microsecond less to the next
+abbrev pub sooner : Way → Way
+sooner r = way (r .place) (r .wait .0 - 1) (r .period .0)
+
+abbrev pub unsampled : Ramp → Shown → Moved
+unsampled r s = record { ramp = r; shown = s; gave = NoSample }
+
+-- one tick of a ramp; a free run moves neither the amplitude nor the place: 'A33 and A34 staying'
 unfoldable pub advance : List ℕ → ℕ → Loaded → Ramp → Shown → Moved
-advance w first l Still s = record { ramp = Still; shown = s }
+advance w first l Still s = unsampled Still s
 advance w first l (Going r) s =
+    cond (ltb 1 (r .wait .0)) (unsampled (Going (sooner r)) s) (given false w first l (r .period .0) (next w first (r .place)) s)
+advance w first l (Free r) s =
     cond (ltb 1 (r .wait .0))
-    (record { ramp = Going (way (r .place) (r .wait .0 - 1) (r .period .0)); shown = s })
-    (given w first l (r .period .0) (next w first (r .place)) s)
+    (unsampled (Free (sooner r)) s)
+    (record { ramp = Free (way (r .place) (r .period .0) (r .period .0)); shown = s; gave = OfFreeRun })

@@ -1,6 +1,7 @@
 pub mod Floor
 pub mod Fraction
 pub mod Sample
+pub mod Product
 pub mod Order
 pub mod Ramp
 pub mod Starred

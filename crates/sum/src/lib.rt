@@ -8,6 +8,7 @@ ghost use Rattle.sum.specs.declared.Side.the-variants.{Within};
 ghost use Rattle.sum.specs.Floor.{floor};
 ghost use Rattle.sum.specs.Fraction.{above};
 ghost use Rattle.sum.specs.Sample.{totalOf, sideOf, settled, sampleOf};
+ghost use Rattle.sum.specs.Product.{productOf, scaledBy};
 
 // A sample as a word, or none where the sum is out of range.
 pub enum Sum {
@@ -40,6 +41,21 @@ pub fn total(scale: u16, from: u16, to: u16, step: Samples, left: Samples, offse
         return raised(scale, number(from), 1, offset);
     }
     raised(scale, rise(from, to, d, m), d, offset)
+}
+
+// An amplitude times a wave's word, over 16384: the output in sine mode.
+pub fn product(amplitude: u16, word: i32) -> Sum
+    ensures { λ r. ⌜ r ≡ productOf amplitude word ⌝ }
+{
+    settle(scaled(amplitude, word))
+}
+
+// The same before its range is checked.
+fn scaled(amplitude: u16, word: i32) -> i64
+    ensures { λ r. ⌜ r ≡ scaledBy amplitude word ⌝ }
+{
+    let a = number(amplitude);
+    floor_div(a * word as i64, 16384)
 }
 
 // The side of the range that a sum lies on.

@@ -1,3 +1,4 @@
 pub mod Word
 pub mod Table
 pub mod Lent
+pub mod Copy

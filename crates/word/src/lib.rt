@@ -5,6 +5,7 @@ ghost use lib.ListN.{getD, set};
 ghost use Rattle.word.specs.Word.{signedOf, grown, lasting};
 ghost use Rattle.word.specs.Table.{isEnd};
 ghost use Rattle.word.specs.Lent.{lent, left};
+ghost use Rattle.word.specs.Copy.{copied};
 
 // A word as a signed number, from -32768 to 32767.
 pub fn signed(word: u16) -> i32
@@ -69,5 +70,19 @@ pub fn put(words: &mut [u16], at: usize, word: u16)
 {
     if at < words.len() {
         words[at] = word;
+    }
+}
+
+// Copies n words from a place of one list on to a place of another and on; past its end nothing is stored.
+pub fn copy(words: &[u16], from: u32, into: &mut [u16], to: u32, n: u32)
+    ensures { λ _. ⌜ left into ≡ copied n (lent words) from (lent into) to ⌝ }
+{
+    let source = from as usize;
+    let target = to as usize;
+    let count = n as usize;
+    let mut i: usize = 0;
+    while i < count {
+        put(into, target + i, get(words, source + i));
+        i = i + 1;
     }
 }

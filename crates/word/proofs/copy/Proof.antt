@@ -1,31 +1,19 @@
--- `channel::copy_table` meets its contract: i words are copied. Assumes nothing.
+-- `word::copy` meets its contract: i words are copied. Assumes nothing.
 use borrow.Author.Needs.{needs}
 use mathlib.Core.Path.{_≡_, refl, _∙_}
 use Prim.Native.Nat.{_≤_, _-_}
 use native.Mathlib.Nat.{le-antisymm}
 use native.Mathlib.Numerals.{add-one}
 use lib.ListN.{length}
-use Rattle.channel.specs.Channel.{copied}
-use Rattle.channel.proofs.copy_table.Statement.{statement}
-use Rattle.channel.proofs.copy_table.Tie as tie
+use Rattle.word.specs.Copy.{copied}
+use Rattle.word.proofs.copy.Statement.{statement}
+use Rattle.word.proofs.copy.Tie as tie
 
 abbrev Inv-loop : tie.InvT-loop
-Inv-loop settings tables₀ c r from to i₀ tables i = (i ≤ 128) × (tables ≡ copied i settings from tables₀ to) × (length tables ≡ length tables₀)
+Inv-loop words from into₀ to n source target count i₀ into i = (i ≤ count) × (into ≡ copied i words from into₀ to) × (length into ≡ length into₀)
 
 abbrev μ-loop : tie.MeasureT-loop
-μ-loop settings tables₀ c r from to i₀ tables i = 128 - i
-
-mul-from : tie.Need-mul-from Inv-loop μ-loop
-mul-from c = search needs
-
-mul-from-2 : tie.Need-mul-from-2 Inv-loop μ-loop
-mul-from-2 c = search needs
-
-add-from : tie.Need-add-from Inv-loop μ-loop
-add-from c = search needs
-
-mul-to : tie.Need-mul-to Inv-loop μ-loop
-mul-to c = search needs
+μ-loop words from into₀ to n source target count i₀ into i = count - i
 
 loop-holds : tie.Need-loop-holds Inv-loop μ-loop
 unfolding copied
@@ -59,16 +47,12 @@ same-length c = search needs
 returns : tie.Need-returns Inv-loop μ-loop
 returns c = rw (le-antisymm (c .before .loop .inv .0) (c .loop-test .left)) at (c .before .loop .inv .1)
 
-pub copy-table-spec : {M : Type 1} → statement M
-copy-table-spec =
+pub copy-spec : {M : Type 1} → statement M
+copy-spec =
     tie.close
     (tie.spec
     Inv-loop
     μ-loop
-    mul-from
-    mul-from-2
-    add-from
-    mul-to
     loop-holds
     add-put
     add-get
