@@ -65,11 +65,15 @@ freeRuns mode = isSine mode && eqb (mode / 4 % 2) 1
 unfoldable pub ended : Loaded → ℕ → Place → Ramp
 ended l period p = cond (freeRuns (l .tone .mode)) (Free (way p period period)) Still
 
--- the sample is given, the ramp's first or a later one; at the end point the ramp rests or free-runs, elsewhere the next comes a period later
+-- the sample at p is given: at the end point the ramp rests or free-runs, elsewhere the next sample comes a period later
+abbrev pub onward : Loaded → ℕ → Place → Ramp
+onward l period p = cond (eqb (p .left .0) 0) (ended l period p) (Going (way p period period))
+
+-- the ramp's first sample, or a later one
 unfoldable pub given : Bool → List ℕ → ℕ → Loaded → ℕ → Place → Shown → Moved
 given isFirst w first l period p s =
     record {
-      ramp = cond (eqb (p .left .0) 0) (ended l period p) (Going (way p period period));
+      ramp = onward l period p;
       shown = give w first l p s;
       gave = OfRamp isFirst (sampleAt w first l p);
     }

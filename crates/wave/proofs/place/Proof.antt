@@ -1,4 +1,6 @@
+-- `wave::place` meets its contract, by bit 14. Assumes nothing.
 use borrow.Author.Needs.{needs}
+use borrow.Author.Tests.{eq-eqb, ne-eqb}
 use Rattle.wave.proofs.place.Statement.{statement}
 use Rattle.wave.proofs.place.Tie as tie
 
@@ -6,10 +8,10 @@ sub-result : tie.Need-sub-result
 sub-result c = search needs
 
 returns : tie.Need-returns
-returns c = ?
+returns c = rw (eq-eqb _ _ (c .if1 .taken))
 
 returns-2 : tie.Need-returns-2
-returns-2 c = ?
+returns-2 c = rw (ne-eqb _ _ (c .if1 .left))
 
 pub place-spec : {M : Type 1} → statement M
 place-spec = tie.close (tie.spec sub-result returns returns-2)

@@ -1,4 +1,9 @@
+-- `wave::sine` meets its contract. Assumes nothing.
 use borrow.Author.Needs.{needs}
+use mathlib.Core.Path.{ap, _∙_}
+use mir.Syntax.{w32}
+use Rattle.word.proofs.Sizes.{kept}
+use Rattle.sum.specs.Product.{productOf}
 use Rattle.wave.proofs.sine.Statement.{statement}
 use Rattle.wave.proofs.sine.Tie as tie
 
@@ -9,7 +14,9 @@ product-requires : tie.Need-product-requires
 product-requires c κs = search needs
 
 returns : tie.Need-returns
-returns c = ?
+returns c =
+    c .product .ensures
+    ∙ ap (productOf (c .before .before .before .args .amplitude)) (kept w32 _ (c .before .wave-word .ok) ∙ c .before .wave-word .ensures)
 
 pub sine-spec : {M : Type 1} → statement M
 sine-spec = tie.close (tie.spec wave-word-requires product-requires returns)
