@@ -24,7 +24,7 @@ channel-names : All Names channelRows
 unfolding channelRows
 channel-names = (
   setting 128 _,
-  (setting 0 _, (setting 0 _, (setting 1 _, (setting 0 _, (setting 1 _, (setting 0 _, (setting 0 _, ((λ c o. refl), ((λ c o. refl), ((λ c o. refl), ((λ c o. refl), ((λ c o. refl), ((λ c o. refl), ((λ c o. refl), tt)))))))))))))),
+  (setting 0 _, (setting 0 _, (setting 1 _, (setting 0 _, (setting 1 _, (setting 0 _, (setting 0 _, (setting 0 _, (setting 0 _, (setting 0 _, (setting 0 _, (setting 0 _, ((λ c o. refl), ((λ c o. refl), ((λ c o. refl), ((λ c o. refl), ((λ c o. refl), ((λ c o. refl), ((λ c o. refl), tt))))))))))))))))))),
 )
 
 card-names : All Names cardRows

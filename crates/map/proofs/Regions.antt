@@ -17,11 +17,11 @@ in-order : T (ordered 0 regions)
 unfolding regions block channelRows cardRows
 in-order = tt
 
-row-count : length regions ≡ 68
+row-count : length regions ≡ 88
 unfolding regions block channelRows cardRows
 row-count = refl
 
-module _ (k : ℕ) (h : k < 68) where
+module _ (k : ℕ) (h : k < 88) where
   inside-count : k < length regions
   inside-count = rw row-count h
 
@@ -44,7 +44,7 @@ module _ (k : ℕ) (h : k < 68) where
   unfolding rowOf
   on a e = rw add-one (sym (scan-row regions k a inside-count ∙ rw e))
 
-pub past : (a : ℕ) → scan (drop 68 regions) a ≡ miss
+pub past : (a : ℕ) → scan (drop 88 regions) a ≡ miss
 unfolding regions block channelRows cardRows scan
 past a = refl
 

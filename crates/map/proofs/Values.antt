@@ -47,7 +47,7 @@ channel-agrees : All Agrees channelRows
 unfolding channelRows
 channel-agrees = (
   (λ c o v. sym (same-kind 128 point c o v ∙ any-point o v)),
-  ((kind 0 S.RampMap), ((kind 0 S.ScaleMap), ((kind 1 S.Scale), ((kind 0 S.OffsetMap), ((kind 1 S.Offset), ((kind 0 S.Delay), ((kind 0 S.WaveformEnable), ((λ c o v. refl), ((λ c o v. refl), ((λ c o v. refl), ((λ c o v. refl), ((λ c o v. refl), ((λ c o v. refl), ((λ c o v. refl), tt)))))))))))))),
+  ((kind 0 S.RampMap), ((kind 0 S.ScaleMap), ((kind 1 S.Scale), ((kind 0 S.OffsetMap), ((kind 1 S.Offset), ((kind 0 S.Delay), ((kind 0 S.FrequencyMap), ((kind 0 S.Frequency), ((kind 0 S.PhaseMap), ((kind 0 S.Phase), ((kind 0 S.WaveformEnable), ((kind 0 S.WaveformMode), ((λ c o v. refl), ((λ c o v. refl), ((λ c o v. refl), ((λ c o v. refl), ((λ c o v. refl), ((λ c o v. refl), ((λ c o v. refl), tt))))))))))))))))))),
 )
 
 card-agrees : All Agrees cardRows

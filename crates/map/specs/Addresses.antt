@@ -27,8 +27,23 @@ offsetAt c entry = base c + 0x8A0 + entry
 abbrev pub delayAt : ℕ → ℕ → ℕ
 delayAt c level = base c + 0x8E0 + level
 
+abbrev pub frequencyMapAt : ℕ → ℕ → ℕ
+frequencyMapAt c level = base c + 0x900 + level
+
+abbrev pub frequencyAt : ℕ → ℕ → ℕ
+frequencyAt c entry = base c + 0x920 + entry
+
+abbrev pub phaseMapAt : ℕ → ℕ → ℕ
+phaseMapAt c level = base c + 0x940 + level
+
+abbrev pub phaseAt : ℕ → ℕ → ℕ
+phaseAt c entry = base c + 0x960 + entry
+
 abbrev pub enableAt : ℕ → ℕ
 enableAt c = base c + 0xA00
+
+abbrev pub modeAt : ℕ → ℕ
+modeAt c = base c + 0xA01
 
 -- 'Channel 2, table 5, point 7, Δt is 0x228F'; 'level 3, slot 2 is 0x401A'
 pub record Worked : Type 0 where

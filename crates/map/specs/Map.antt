@@ -14,6 +14,7 @@ use Rattle.map.specs.declared.Setting.the-variants as S
 use Rattle.map.specs.declared.Field.the-variants as F
 use Rattle.map.specs.declared.Register.{Register}
 use Rattle.map.specs.declared.Register.the-variants as R
+use Rattle.map.specs.Register.{isMode}
 
 -- ---- the columns of the table
 
@@ -58,7 +59,12 @@ channelRows =
     ∷ row 0x880 0x89F (settings 0 (all S.OffsetMap)) ReadWrite (upTo 31)
     ∷ row 0x8A0 0x8BF (settings 1 (all S.Offset)) ReadWrite any
     ∷ row 0x8E0 0x8FF (settings 0 (all S.Delay)) ReadWrite any
+    ∷ row 0x900 0x91F (settings 0 (all S.FrequencyMap)) ReadWrite (upTo 31)
+    ∷ row 0x920 0x93F (settings 0 (all S.Frequency)) ReadWrite any
+    ∷ row 0x940 0x95F (settings 0 (all S.PhaseMap)) ReadWrite (upTo 31)
+    ∷ row 0x960 0x97F (settings 0 (all S.Phase)) ReadWrite any
     ∷ row 0xA00 0xA00 (settings 0 (all S.WaveformEnable)) ReadWrite (upTo 1)
+    ∷ row 0xA01 0xA01 (settings 0 (all S.WaveformMode)) ReadWrite (λ o v. isMode v)
     ∷ row 0xA04 0xA04 (λ c o. R.Output c) ReadWrite any
     ∷ row 0xA30 0xA30 (λ c o. R.Status c F.Table) Read none
     ∷ row 0xA31 0xA31 (λ c o. R.Status c F.Scale) Read none

@@ -1,11 +1,15 @@
 -- The accepted values, once the register is known.
-use mathlib.Core.Bool.{Bool, true, false}
-use Prim.Native.Nat.{ℕ}
-use lib.Dec.{leb}
+use mathlib.Core.Bool.{Bool, true, false, _&&_}
+use Prim.Native.Nat.{ℕ, _/_, _%_}
+use lib.Dec.{leb, eqb}
 use Rattle.map.specs.declared.Setting.{Setting}
 use Rattle.map.specs.declared.Setting.the-variants as S
 use Rattle.map.specs.declared.Register.{Register}
 use Rattle.map.specs.declared.Register.the-variants as R
+
+-- 'bit 0 sine, bit 2 free run .. others zero': 0, 1, 4 and 5
+abbrev pub isMode : ℕ → Bool
+isMode v = leb v 5 && eqb (v / 2 % 2) 0
 
 abbrev pub allowedSetting : Setting → ℕ → Bool
 allowedSetting S.Value v = true
@@ -16,7 +20,12 @@ allowedSetting S.Scale v = true
 allowedSetting S.OffsetMap v = leb v 31
 allowedSetting S.Offset v = true
 allowedSetting S.Delay v = true
+allowedSetting S.FrequencyMap v = leb v 31
+allowedSetting S.Frequency v = true
+allowedSetting S.PhaseMap v = leb v 31
+allowedSetting S.Phase v = true
 allowedSetting S.WaveformEnable v = leb v 1
+allowedSetting S.WaveformMode v = isMode v
 allowedSetting S.ClockEnable v = leb v 1
 
 -- a word that is only read accepts nothing

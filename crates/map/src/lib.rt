@@ -2,7 +2,7 @@
 ghost use mathlib.Core.Path.{_≡_};
 ghost use Prim.Native.Nat.{_/_};
 ghost use Rattle.map.specs.Map.{registerOf, acceptedAt, channelRows, cardRows, scan, namedIn, point};
-ghost use Rattle.map.specs.Register.{allowed, allowedSetting};
+ghost use Rattle.map.specs.Register.{allowed, allowedSetting, isMode};
 
 pub enum Access {
     ReadWrite,
@@ -33,7 +33,12 @@ pub enum Setting {
     OffsetMap,
     Offset,
     Delay,
+    FrequencyMap,
+    Frequency,
+    PhaseMap,
+    Phase,
     WaveformEnable,
+    WaveformMode,
     ClockEnable,
 }
 
@@ -116,9 +121,24 @@ fn setting_allows(setting: Setting, value: u16) -> bool
         Setting::OffsetMap => value <= 31,
         Setting::Offset => true,
         Setting::Delay => true,
+        Setting::FrequencyMap => value <= 31,
+        Setting::Frequency => true,
+        Setting::PhaseMap => value <= 31,
+        Setting::Phase => true,
         Setting::WaveformEnable => value <= 1,
+        Setting::WaveformMode => is_mode(value),
         Setting::ClockEnable => value <= 1,
     }
+}
+
+// A waveform mode: bit 0 sine, bit 2 free run, others zero.
+fn is_mode(value: u16) -> bool
+    ensures { λ r. ⌜ r ≡ isMode value ⌝ }
+{
+    if 5 < value {
+        return false;
+    }
+    value / 2 % 2 == 0
 }
 
 // The word of a table's point: V at an even offset, its time step at the next.
@@ -148,7 +168,12 @@ fn channel_register(channel: usize, offset: u16) -> Register
         0x8A0 => Register::Fixed(Setting::Offset),
         0x8A1..=0x8BF => Register::Setting(Setting::Offset),
         0x8E0..=0x8FF => Register::Setting(Setting::Delay),
+        0x900..=0x91F => Register::Setting(Setting::FrequencyMap),
+        0x920..=0x93F => Register::Setting(Setting::Frequency),
+        0x940..=0x95F => Register::Setting(Setting::PhaseMap),
+        0x960..=0x97F => Register::Setting(Setting::Phase),
         0xA00 => Register::Setting(Setting::WaveformEnable),
+        0xA01 => Register::Setting(Setting::WaveformMode),
         0xA04 => Register::Output(channel),
         0xA30 => Register::Status(channel, Field::Table),
         0xA31 => Register::Status(channel, Field::Scale),

@@ -43,7 +43,12 @@ shownSetting S.Scale w = Factor (factorOf w)
 shownSetting S.OffsetMap w = Plain w
 shownSetting S.Offset w = Volts (voltsOf w)
 shownSetting S.Delay w = Micros (record { 0 = w })
+shownSetting S.FrequencyMap w = Plain w
+shownSetting S.Frequency w = Plain w
+shownSetting S.PhaseMap w = Plain w
+shownSetting S.Phase w = Plain w
 shownSetting S.WaveformEnable w = Plain w
+shownSetting S.WaveformMode w = Plain w
 shownSetting S.ClockEnable w = Plain w
 
 -- the loaded offset shows volts too, and the loaded scale factor is a scale word

@@ -124,7 +124,12 @@ fn show_setting(setting: Setting, word: u16) -> Reading
         Setting::OffsetMap => Reading::Plain(word),
         Setting::Offset => Reading::Volts(volts(word)),
         Setting::Delay => Reading::Micros(Micros(word as u32)),
+        Setting::FrequencyMap => Reading::Plain(word),
+        Setting::Frequency => Reading::Plain(word),
+        Setting::PhaseMap => Reading::Plain(word),
+        Setting::Phase => Reading::Plain(word),
         Setting::WaveformEnable => Reading::Plain(word),
+        Setting::WaveformMode => Reading::Plain(word),
         Setting::ClockEnable => Reading::Plain(word),
     }
 }

@@ -12,7 +12,7 @@ pub fn region_of(address: u16) -> Found
     ensures { λ r. ⌜ r ≡ regionOf address ⌝ }
 {
     let mut k: usize = 0;
-    while k < 68 {
+    while k < 88 {
         let r = entry(k);
         if inside(r, address) {
             return Found::At(r);
@@ -34,7 +34,7 @@ fn inside(region: Region, address: u16) -> bool
 
 // Region k of the table.
 fn entry(k: usize) -> Region
-    requires { ⌜ k < 68 ⌝ }
+    requires { ⌜ k < 88 ⌝ }
     ensures { λ r. ⌜ r ≡ rowOf k .region ⌝ }
 {
     let r = REGIONS[k];
@@ -68,7 +68,7 @@ const W: u16 = 2;
 struct Row(u16, u16, u16);
 
 // Each row of the paper's table for each of the four channels, and the card's own.
-const REGIONS: [Row; 68] = [
+const REGIONS: [Row; 88] = [
     Row(0x0000, 0x07FF, RW),
     Row(0x0800, 0x081F, RW),
     Row(0x0840, 0x085F, RW),
@@ -76,7 +76,12 @@ const REGIONS: [Row; 68] = [
     Row(0x0880, 0x089F, RW),
     Row(0x08A0, 0x08BF, RW),
     Row(0x08E0, 0x08FF, RW),
+    Row(0x0900, 0x091F, RW),
+    Row(0x0920, 0x093F, RW),
+    Row(0x0940, 0x095F, RW),
+    Row(0x0960, 0x097F, RW),
     Row(0x0A00, 0x0A00, RW),
+    Row(0x0A01, 0x0A01, RW),
     Row(0x0A04, 0x0A04, RW),
     Row(0x0A30, 0x0A30, R),
     Row(0x0A31, 0x0A31, R),
@@ -91,7 +96,12 @@ const REGIONS: [Row; 68] = [
     Row(0x1880, 0x189F, RW),
     Row(0x18A0, 0x18BF, RW),
     Row(0x18E0, 0x18FF, RW),
+    Row(0x1900, 0x191F, RW),
+    Row(0x1920, 0x193F, RW),
+    Row(0x1940, 0x195F, RW),
+    Row(0x1960, 0x197F, RW),
     Row(0x1A00, 0x1A00, RW),
+    Row(0x1A01, 0x1A01, RW),
     Row(0x1A04, 0x1A04, RW),
     Row(0x1A30, 0x1A30, R),
     Row(0x1A31, 0x1A31, R),
@@ -106,7 +116,12 @@ const REGIONS: [Row; 68] = [
     Row(0x2880, 0x289F, RW),
     Row(0x28A0, 0x28BF, RW),
     Row(0x28E0, 0x28FF, RW),
+    Row(0x2900, 0x291F, RW),
+    Row(0x2920, 0x293F, RW),
+    Row(0x2940, 0x295F, RW),
+    Row(0x2960, 0x297F, RW),
     Row(0x2A00, 0x2A00, RW),
+    Row(0x2A01, 0x2A01, RW),
     Row(0x2A04, 0x2A04, RW),
     Row(0x2A30, 0x2A30, R),
     Row(0x2A31, 0x2A31, R),
@@ -121,7 +136,12 @@ const REGIONS: [Row; 68] = [
     Row(0x3880, 0x389F, RW),
     Row(0x38A0, 0x38BF, RW),
     Row(0x38E0, 0x38FF, RW),
+    Row(0x3900, 0x391F, RW),
+    Row(0x3920, 0x393F, RW),
+    Row(0x3940, 0x395F, RW),
+    Row(0x3960, 0x397F, RW),
     Row(0x3A00, 0x3A00, RW),
+    Row(0x3A01, 0x3A01, RW),
     Row(0x3A04, 0x3A04, RW),
     Row(0x3A30, 0x3A30, R),
     Row(0x3A31, 0x3A31, R),

@@ -1,6 +1,6 @@
 -- `map::setting_allows` meets its contract: each arm is the setting's own case. Assumes nothing.
 use borrow.Author.Needs.{needs}
-use mathlib.Core.Path.{_≡_, sym, ap}
+use mathlib.Core.Path.{_≡_, sym, ap, _∙_}
 use Prim.Native.Nat.{ℕ}
 use Rattle.map.specs.declared.Setting.{Setting}
 use Rattle.map.specs.Register.{allowedSetting}
@@ -41,6 +41,24 @@ enum-told-9 c = search needs
 enum-told-10 : tie.Need-enum-told-10
 enum-told-10 c = search needs
 
+enum-told-11 : tie.Need-enum-told-11
+enum-told-11 c = search needs
+
+enum-told-12 : tie.Need-enum-told-12
+enum-told-12 c = search needs
+
+enum-told-13 : tie.Need-enum-told-13
+enum-told-13 c = search needs
+
+enum-told-14 : tie.Need-enum-told-14
+enum-told-14 c = search needs
+
+is-mode-requires : tie.Need-is-mode-requires
+is-mode-requires c κs = search needs
+
+enum-told-15 : tie.Need-enum-told-15
+enum-told-15 c = search needs
+
 returns : tie.Need-returns
 returns c = search needs
 
@@ -69,7 +87,22 @@ returns-9 : tie.Need-returns-9
 returns-9 c = told _ (c .enum-told9 .given .1)
 
 returns-10 : tie.Need-returns-10
-returns-10 c = told _ (c .enum-told10 .given .1)
+returns-10 c = search needs
+
+returns-11 : tie.Need-returns-11
+returns-11 c = told _ (c .enum-told11 .given .1)
+
+returns-12 : tie.Need-returns-12
+returns-12 c = search needs
+
+returns-13 : tie.Need-returns-13
+returns-13 c = told _ (c .enum-told13 .given .1)
+
+returns-14 : tie.Need-returns-14
+returns-14 c = c .is-mode .ensures ∙ told _ (c .before .enum-told14 .given .1)
+
+returns-15 : tie.Need-returns-15
+returns-15 c = told _ (c .enum-told15 .given .1)
 
 pub setting-allows-spec : {M : Type 1} → statement M
 setting-allows-spec =
@@ -85,6 +118,12 @@ setting-allows-spec =
     enum-told-8
     enum-told-9
     enum-told-10
+    enum-told-11
+    enum-told-12
+    enum-told-13
+    enum-told-14
+    is-mode-requires
+    enum-told-15
     returns
     returns-2
     returns-3
@@ -94,4 +133,9 @@ setting-allows-spec =
     returns-7
     returns-8
     returns-9
-    returns-10)
+    returns-10
+    returns-11
+    returns-12
+    returns-13
+    returns-14
+    returns-15)

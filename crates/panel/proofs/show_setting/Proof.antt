@@ -50,6 +50,21 @@ enum-told-9 c = search needs
 enum-told-10 : tie.Need-enum-told-10
 enum-told-10 c = search needs
 
+enum-told-11 : tie.Need-enum-told-11
+enum-told-11 c = search needs
+
+enum-told-12 : tie.Need-enum-told-12
+enum-told-12 c = search needs
+
+enum-told-13 : tie.Need-enum-told-13
+enum-told-13 c = search needs
+
+enum-told-14 : tie.Need-enum-told-14
+enum-told-14 c = search needs
+
+enum-told-15 : tie.Need-enum-told-15
+enum-told-15 c = search needs
+
 returns : tie.Need-returns
 returns c = ap Volts (c .volts .ensures .0) ∙ told _ (c .before .enum-told .given .1)
 
@@ -80,6 +95,21 @@ returns-9 c = told _ (c .enum-told9 .given .1)
 returns-10 : tie.Need-returns-10
 returns-10 c = told _ (c .enum-told10 .given .1)
 
+returns-11 : tie.Need-returns-11
+returns-11 c = told _ (c .enum-told11 .given .1)
+
+returns-12 : tie.Need-returns-12
+returns-12 c = told _ (c .enum-told12 .given .1)
+
+returns-13 : tie.Need-returns-13
+returns-13 c = told _ (c .enum-told13 .given .1)
+
+returns-14 : tie.Need-returns-14
+returns-14 c = told _ (c .enum-told14 .given .1)
+
+returns-15 : tie.Need-returns-15
+returns-15 c = told _ (c .enum-told15 .given .1)
+
 pub show-setting-spec : {M : Type 1} → statement M
 show-setting-spec =
     tie.close
@@ -97,6 +127,11 @@ show-setting-spec =
     enum-told-8
     enum-told-9
     enum-told-10
+    enum-told-11
+    enum-told-12
+    enum-told-13
+    enum-told-14
+    enum-told-15
     returns
     returns-2
     returns-3
@@ -106,4 +141,9 @@ show-setting-spec =
     returns-7
     returns-8
     returns-9
-    returns-10)
+    returns-10
+    returns-11
+    returns-12
+    returns-13
+    returns-14
+    returns-15)

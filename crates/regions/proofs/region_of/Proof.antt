@@ -12,10 +12,10 @@ use Rattle.regions.proofs.region_of.Statement.{statement}
 use Rattle.regions.proofs.region_of.Tie as tie
 
 abbrev Inv-loop : tie.InvT-loop
-Inv-loop address k₀ k = (k ≤ 68) × (scan (drop k regions) address ≡ scan regions address)
+Inv-loop address k₀ k = (k ≤ 88) × (scan (drop k regions) address ≡ scan regions address)
 
 abbrev μ-loop : tie.MeasureT-loop
-μ-loop address k₀ k = 68 - k
+μ-loop address k₀ k = 88 - k
 
 -- the test of row k, as `inside` told it
 tested : (c : tie.After-inside Inv-loop μ-loop) → holds (rowOf (c .before .before .before .loop .k) .region) (c .before .before .before .before .args .address) ≡ c .inside .result
@@ -50,7 +50,7 @@ loop-again c =
 returns-2 : tie.Need-returns-2 Inv-loop μ-loop
 returns-2 c =
     let a = c .before .before .args .address in
-    let e : c .before .loop .k ≡ 68 = omega arith in
+    let e : c .before .loop .k ≡ 88 = omega arith in
     ap foundIn (sym (past a) ∙ ap (λ (n : ℕ). scan (drop n regions) a) (sym e) ∙ c .before .loop .inv .1)
 
 pub region-of-spec : {M : Type 1} → statement M
