@@ -9,22 +9,22 @@ use Rattle.channel.specs.declared.Channel.{Channel}
 use Rattle.channel.specs.declared.Ramp.{Ramp}
 use Rattle.channel.specs.declared.Phase.the-variants.{Counting}
 use Rattle.channel.specs.Ramp.{advance}
-use Rattle.channel.specs.Channel.{side, with, word, firstOf, rampOf, lead, load, start, countTo, countdown, triggered}
+use Rattle.channel.specs.Channel.{side, move, quiet, with, word, firstOf, rampOf, lead, load, start, countTo, countdown, triggered}
 
 module _ (s l : List ℕ) (c : ℕ) (ch : Channel) where
   module _ (older : Ramp) (n : ℕ) where
     -- the countdown reaches 0, reaches 10, or neither
-    pub at-start : n ≤ 1 → countTo (n - 1) older s l c ch ≡ side (start s l c ch) l
+    pub at-start : n ≤ 1 → countTo (n - 1) older s l c ch ≡ start s l c ch
     unfolding countTo
     at-start h = rw (eq-eqb (n - 1) 0 (omega arith))
 
-    pub at-load : n ≡ 11 → countTo (n - 1) older s l c ch ≡ load s l c ch (ch .level)
+    pub at-load : n ≡ 11 → countTo (n - 1) older s l c ch ≡ quiet (load s l c ch (ch .level))
     unfolding countTo
     at-load h = rw (ne-eqb (n - 1) 0 (λ e. absurd (omega arith)), eq-eqb (n - 1) lead (omega arith))
 
     pub on : 1 < n → (n ≡ 11 → ⊥)
         → countTo (n - 1) older s l c ch
-        ≡ side (with ch (Counting (record { 0 = n - 1 }) (advance l (firstOf c) (ch .loaded) older (ch .shown) .ramp)) (advance l (firstOf c) (ch .loaded) older (ch .shown) .shown)) l
+        ≡ move (with ch (Counting (record { 0 = n - 1 }) (advance l (firstOf c) (ch .loaded) older (ch .shown) .ramp)) (advance l (firstOf c) (ch .loaded) older (ch .shown) .shown)) l (advance l (firstOf c) (ch .loaded) older (ch .shown) .gave)
     unfolding countTo
     on h k = rw (ne-eqb (n - 1) 0 (λ e. absurd (omega arith)), ne-eqb (n - 1) lead (λ e. k (omega arith)))
 
@@ -35,9 +35,9 @@ module _ (s l : List ℕ) (c : ℕ) (ch : Channel) where
     at-once h = rw (eq-eqb (countdown s c level) lead (omega arith))
 
     pub later : 10 < word s (delayAt c level)
-        → triggered s l c ch level ≡ side (record { phase = Counting (record { 0 = word s (delayAt c level) }) (rampOf (ch .phase)); level = level; loaded = ch .loaded; shown = ch .shown }) l
+        → triggered s l c ch level ≡ side (record { phase = Counting (record { 0 = word s (delayAt c level) }) (rampOf (ch .phase)); level = level; loaded = ch .loaded; shown = ch .shown; signal = ch .signal }) l
     unfolding triggered
     later h =
         let e : countdown s c level ≡ word s (delayAt c level) = omega arith in
         rw (ne-eqb (countdown s c level) lead (λ q. absurd (omega arith)))
-        (ap (λ (d : ℕ). side (record { phase = Counting (record { 0 = d }) (rampOf (ch .phase)); level = level; loaded = ch .loaded; shown = ch .shown }) l) e)
+        (ap (λ (d : ℕ). side (record { phase = Counting (record { 0 = d }) (rampOf (ch .phase)); level = level; loaded = ch .loaded; shown = ch .shown; signal = ch .signal }) l) e)

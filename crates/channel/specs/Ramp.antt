@@ -1,6 +1,6 @@
 -- 'One tick, one microsecond': a ramp on its way through its table, whose first word is at `first` of the lent words. What a ramp moves
 -- is its amplitude; what becomes of it is in `specs/Signal`.
-use mathlib.Core.Bool.{Bool, _&&_, cond}
+use mathlib.Core.Bool.{Bool, false, _&&_, cond}
 use mathlib.Core.List.{List}
 use Prim.Native.Nat.{ℕ, _+_, _-_, _/_, _%_}
 use lib.Dec.{ltb, eqb}

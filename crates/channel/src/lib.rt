@@ -427,7 +427,7 @@ fn step(tables: &[u16], c: u16, loaded: Loaded, ramp: Ramp, shown: Shown) -> Mov
             let wait = w.wait.0;
             let period = w.period;
             if 1 < wait {
-                return unsampled(Ramp::Going(way(p, wait - 1, period)), shown);
+                return unsampled(Ramp::Going(on_way(p, wait - 1, period)), shown);
             }
             sample_given(tables, c, false, loaded, period, next_place(tables, c, p), shown)
         }
@@ -436,10 +436,10 @@ fn step(tables: &[u16], c: u16, loaded: Loaded, ramp: Ramp, shown: Shown) -> Mov
             let wait = w.wait.0;
             let period = w.period;
             if 1 < wait {
-                return unsampled(Ramp::Free(way(p, wait - 1, period)), shown);
+                return unsampled(Ramp::Free(on_way(p, wait - 1, period)), shown);
             }
             Moved {
-                ramp: Ramp::Free(way(p, period.0, period)),
+                ramp: Ramp::Free(on_way(p, period.0, period)),
                 shown: shown,
                 gave: Gave::OfFreeRun,
             }
@@ -447,7 +447,7 @@ fn step(tables: &[u16], c: u16, loaded: Loaded, ramp: Ramp, shown: Shown) -> Mov
     }
 }
 
-fn way(p: Place, wait: u32, period: Micros) -> Way
+fn on_way(p: Place, wait: u32, period: Micros) -> Way
     ensures { λ r. ⌜ r ≡ record { place = p; wait = record { 0 = wait }; period = period } ⌝ }
 {
     Way {
@@ -497,7 +497,7 @@ fn ramp_after(loaded: Loaded, period: Micros, p: Place) -> Ramp
     if left.0 == 0 {
         return end_of(loaded, period, p);
     }
-    Ramp::Going(way(p, period.0, period))
+    Ramp::Going(on_way(p, period.0, period))
 }
 
 // The end point's sample is given: the ramp is still, or under free run its sine goes on.
@@ -506,7 +506,7 @@ fn end_of(loaded: Loaded, period: Micros, p: Place) -> Ramp
 {
     let mode = loaded.tone.mode;
     if runs_free(mode) {
-        return Ramp::Free(way(p, period.0, period));
+        return Ramp::Free(on_way(p, period.0, period));
     }
     Ramp::Still
 }

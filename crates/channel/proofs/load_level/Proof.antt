@@ -4,7 +4,8 @@ use mathlib.Core.Path.{ap, _∙_}
 use Rattle.channel.specs.declared.Loaded.{Loaded}
 use Rattle.channel.specs.declared.Phase.the-variants.{Counting}
 use Rattle.channel.specs.declared.Ramp.the-variants.{Still}
-use Rattle.channel.specs.Channel.{copied, firstOf, blank, load}
+use Rattle.channel.specs.Channel.{firstOf, blank, load}
+use Rattle.word.specs.Copy.{copied}
 use Rattle.map.specs.Addresses.{tableAt}
 use Rattle.channel.proofs.load_level.Statement.{statement}
 use Rattle.channel.proofs.load_level.Tie as tie

@@ -1,7 +1,4 @@
--- `channel::sample_given` meets its contract. Assumes nothing.
 use borrow.Author.Needs.{needs}
-use borrow.Author.Tests.{eq-eqb, ne-eqb}
-use Rattle.channel.specs.Ramp.{given}
 use Rattle.channel.proofs.sample_given.Statement.{statement}
 use Rattle.channel.proofs.sample_given.Tie as tie
 
@@ -11,13 +8,12 @@ sample-at-requires c κs = search needs
 shown-after-requires : tie.Need-shown-after-requires
 shown-after-requires c κs = search needs
 
-returns : tie.Need-returns
-unfolding given
-returns c = rw (eq-eqb _ _ (c .if1 .taken), c .before .before .before .shown-after .ensures, c .before .before .before .before .sample-at .ensures)
+ramp-after-requires : tie.Need-ramp-after-requires
+ramp-after-requires c κs = search needs
 
-returns-2 : tie.Need-returns-2
-unfolding given
-returns-2 c = rw (ne-eqb _ _ (c .if1 .left), c .before .before .before .shown-after .ensures, c .before .before .before .before .sample-at .ensures)
+returns : tie.Need-returns
+returns c = ?
 
 pub sample-given-spec : {M : Type 1} → statement M
-sample-given-spec = tie.close (tie.spec sample-at-requires shown-after-requires returns returns-2)
+sample-given-spec =
+    tie.close (tie.spec sample-at-requires shown-after-requires ramp-after-requires returns)

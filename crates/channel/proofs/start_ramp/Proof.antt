@@ -1,8 +1,4 @@
--- `channel::start_ramp` meets its contract, enabled or not. Assumes nothing.
 use borrow.Author.Needs.{needs}
-use mathlib.Core.Path.{sym, _∙_}
-use borrow.Author.Tests.{eq-eqb, ne-eqb}
-use Rattle.channel.specs.Channel.{start}
 use Rattle.channel.proofs.start_ramp.Statement.{statement}
 use Rattle.channel.proofs.start_ramp.Tie as tie
 
@@ -24,22 +20,20 @@ point-requires c κs = search needs
 sample-given-requires : tie.Need-sample-given-requires
 sample-given-requires c κs = search needs
 
-ramp-phase-requires : tie.Need-ramp-phase-requires
-ramp-phase-requires c κs = search needs
+moved-on-requires : tie.Need-moved-on-requires
+moved-on-requires c κs = search needs
+
+returns : tie.Need-returns
+returns c = ?
 
 in-phase-requires : tie.Need-in-phase-requires
 in-phase-requires c κs = search needs
 
-returns : tie.Need-returns
-unfolding start
-returns c = c .in-phase .ensures ∙ rw (c .before .ramp-phase .ensures, c .before .before .before .sample-given .ensures, c .before .before .before .before .point .ensures, c .before .before .before .before .before .micros .ensures, eq-eqb _ 1 (sym (c .before .before .before .before .before .before .before .get .ensures) ∙ c .before .before .before .before .before .before .if1 .taken))
-
-in-phase-requires-2 : tie.Need-in-phase-requires-2
-in-phase-requires-2 c κs = search needs
+quiet-requires : tie.Need-quiet-requires
+quiet-requires c κs = search needs
 
 returns-2 : tie.Need-returns-2
-unfolding start
-returns-2 c = c .in-phase2 .ensures ∙ rw (ne-eqb _ 1 (λ e. c .before .if1 .left (c .before .before .get .ensures ∙ e)))
+returns-2 c = ?
 
 pub start-ramp-spec : {M : Type 1} → statement M
 start-ramp-spec =
@@ -51,8 +45,8 @@ start-ramp-spec =
     micros-requires
     point-requires
     sample-given-requires
-    ramp-phase-requires
-    in-phase-requires
+    moved-on-requires
     returns
-    in-phase-requires-2
+    in-phase-requires
+    quiet-requires
     returns-2)

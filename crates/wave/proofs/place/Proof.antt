@@ -1,4 +1,4 @@
--- `wave::place` meets its contract, by bit 14. Assumes nothing.
+-- `wave::place` meets its contract. Assumes nothing.
 use borrow.Author.Needs.{needs}
 use borrow.Author.Tests.{eq-eqb, ne-eqb}
 use Rattle.wave.proofs.place.Statement.{statement}

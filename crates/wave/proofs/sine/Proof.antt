@@ -15,8 +15,8 @@ product-requires c κs = search needs
 
 returns : tie.Need-returns
 returns c =
-    c .product .ensures
-    ∙ ap (productOf (c .before .before .before .args .amplitude)) (kept w32 _ (c .before .wave-word .ok) ∙ c .before .wave-word .ensures)
+    let a = c .before .before .before .args in
+    c .product .ensures ∙ ap (productOf (a .amplitude)) (kept w32 _ (c .before .wave-word .ok) ∙ c .before .wave-word .ensures)
 
 pub sine-spec : {M : Type 1} → statement M
 sine-spec = tie.close (tie.spec wave-word-requires product-requires returns)

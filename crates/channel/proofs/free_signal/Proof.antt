@@ -1,0 +1,15 @@
+use borrow.Author.Needs.{needs}
+use Rattle.channel.proofs.free_signal.Statement.{statement}
+use Rattle.channel.proofs.free_signal.Tie as tie
+
+counter-next-requires : tie.Need-counter-next-requires
+counter-next-requires c κs = search needs
+
+sine-after-requires : tie.Need-sine-after-requires
+sine-after-requires c κs = search needs
+
+returns : tie.Need-returns
+returns c = ?
+
+pub free-signal-spec : {M : Type 1} → statement M
+free-signal-spec = tie.close (tie.spec counter-next-requires sine-after-requires returns)
