@@ -1,4 +1,5 @@
--- The card: four channels, the level counts, the active trigger and the pending one; beside it the lent words.
+-- The card: four channels, the level counts, the active trigger and the pending one; beside it the lent words. The wave tables, which only
+-- ticks read, are beside the state.
 use mathlib.Core.Path.{_≡_}
 use mathlib.Core.Bool.{Bool, _||_, cond}
 use mathlib.Core.List.{List, [], _∷_}
@@ -9,7 +10,7 @@ use Rattle.word.specs.Lent.{Lent, lent, left}
 use Rattle.channel.specs.declared.Channel.{Channel}
 use Rattle.channel.specs.declared.Phase.the-variants.{Rest}
 use Rattle.channel.specs.Ramp.{place}
-use Rattle.channel.specs.Channel.{Side}
+use Rattle.channel.specs.Channel.{Side, noTone}
 use Rattle.card.specs.declared.Card.{Card}
 
 -- the whole state: the card, the settings by address, and the four loaded tables
@@ -43,8 +44,9 @@ noChannel =
     record {
       phase = Rest;
       level = 0;
-      loaded = record { table = 0; scale = 0; offset = 0 };
-      shown = record { output = 0; place = place 0 0; overflow = 0 };
+      loaded = record { table = 0; scale = 0; offset = 0; tone = noTone };
+      shown = record { amplitude = 0; place = place 0 0 };
+      signal = record { output = 0; overflow = 0; counter = 0 };
     }
 
 -- channel c

@@ -20,6 +20,10 @@ settingsReset s = erased (scalesReset 3 (scalesReset 2 (scalesReset 1 (scalesRes
 unfoldable pub tablesReset : List ℕ → List ℕ
 tablesReset l = filled 512 l 0 0
 
+-- the wave table 'resets to zeros', on each channel
+unfoldable pub wavesReset : List ℕ → List ℕ
+wavesReset w = filled 4096 w 0 0
+
 -- '0x4211 .. 0xFE', 'all else 0', 'no countdown, no ramp'
 unfoldable pub cardReset : Card
 cardReset =

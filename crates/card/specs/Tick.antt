@@ -1,22 +1,48 @@
--- 'A tick first advances every channel, then takes its event, if any.'
+-- 'A tick first advances every channel, then takes its event, if any.' Every channel is advanced in two passes (document 02, Two): all ramp
+-- values move, then the outputs are made, with the wave tables w.
+use mathlib.Core.List.{List, [], _∷_}
 use Prim.Native.Nat.{ℕ, zero, suc}
-use Rattle.channel.specs.Channel.{tickOf}
-use Rattle.card.specs.Card.{State, state, All, onAll, withChannels}
+use Rattle.channel.specs.declared.Channel.{Channel}
+use Rattle.channel.specs.Channel.{Move, moveOf, sounded, ticked}
+use Rattle.card.specs.declared.Pass.{Pass}
+use Rattle.card.specs.Card.{State, state, All, channelOf, withChannels}
 use Rattle.card.specs.Active.{showing}
 use Rattle.card.specs.Trigger.{eventOf}
 
-abbrev pub moved : State → All
-moved st = onAll (λ c l ch. tickOf (st .settings) l c ch) (st .card) (st .tables)
+-- the four channels after the first pass, one after the other over the loaded tables
+pub record Moving : Type 0 where
+  pub pass : Pass
+  pub tables : List ℕ
+
+unfoldable pub moving : State → Moving
+moving st =
+    let a : Move = moveOf (st .settings) (st .tables) 0 (channelOf (st .card) 0) in
+    let b : Move = moveOf (st .settings) (a .tables) 1 (channelOf (st .card) 1) in
+    let c : Move = moveOf (st .settings) (b .tables) 2 (channelOf (st .card) 2) in
+    let d : Move = moveOf (st .settings) (c .tables) 3 (channelOf (st .card) 3) in
+    record { pass = record { zero = ticked a; one = ticked b; two = ticked c; three = ticked d }; tables = d .tables }
+
+-- the second pass
+unfoldable pub making : List ℕ → Pass → List Channel
+making w p =
+    sounded w 0 (p .zero .channel) (p .zero .gave)
+    ∷ sounded w 1 (p .one .channel) (p .one .gave)
+    ∷ sounded w 2 (p .two .channel) (p .two .gave)
+    ∷ sounded w 3 (p .three .channel) (p .three .gave)
+    ∷ []
+
+abbrev pub moved : List ℕ → State → All
+moved w st = record { channels = making w (moving st .pass); tables = moving st .tables }
 
 -- every channel one microsecond on; a load by counting shows the pending trigger, and only then the event is taken
-unfoldable pub advanced : State → State
-advanced st = state (showing (withChannels (st .card) (moved st .channels))) (st .settings) (moved st .tables)
+unfoldable pub advanced : List ℕ → State → State
+advanced w st = state (showing (withChannels (st .card) (moved w st .channels))) (st .settings) (moved w st .tables)
 
 -- a tick with its event, 0xFE if there is none
-abbrev pub tickWith : State → ℕ → State
-tickWith st event = eventOf (advanced st) event
+abbrev pub tickWith : List ℕ → State → ℕ → State
+tickWith w st event = eventOf (advanced w st) event
 
 -- n ticks, no event
-unfoldable pub ticks : ℕ → State → State
-ticks zero st = st
-ticks (suc n) st = ticks n (advanced st)
+unfoldable pub ticks : List ℕ → ℕ → State → State
+ticks w zero st = st
+ticks w (suc n) st = ticks w n (advanced w st)

@@ -16,7 +16,7 @@ use Rattle.slots.specs.declared.Holder.{Holder}
 use Rattle.slots.specs.declared.Holder.the-variants.{Level, Nobody}
 use Rattle.slots.specs.Slots.{otherOf, imageOf, erased}
 use Rattle.channel.specs.declared.Channel.{Channel}
-use Rattle.channel.specs.Channel.{word, with, runsOf}
+use Rattle.channel.specs.Channel.{word, withSignal, runsOf}
 use Rattle.card.specs.declared.Card.{Card}
 use Rattle.card.specs.Card.{State, state, channelOf, withChannel, countOf, withCount}
 use Rattle.card.specs.Trigger.{triggerOf}
@@ -65,7 +65,7 @@ heldAt s R.ActiveEvent v = false
 heldAt s (R.Count l) v = false
 heldAt s R.Unlisted v = false
 
--- 8: 'write to A04 while a ramp runs on that channel'
+-- 8: 'write to A04 while a ramp runs on that channel', 'also in free run'
 abbrev pub runningAt : Card → Register → Bool
 runningAt k (R.Setting x) = false
 runningAt k (R.Fixed x) = false
@@ -107,12 +107,20 @@ effectOf R.ActiveEvent v = Nothing
 effectOf (R.Count l) v = ClearCount l
 effectOf R.Unlisted v = Nothing
 
--- the output becomes v; the overflow count becomes 0
+-- the output becomes v, and so does the amplitude, which 'an A04 write also sets'
 abbrev pub outputTo : Channel → ℕ → Channel
-outputTo ch v = with ch (ch .phase) (record { output = v; place = ch .shown .place; overflow = ch .shown .overflow })
+outputTo ch v =
+    record {
+      phase = ch .phase;
+      level = ch .level;
+      loaded = ch .loaded;
+      shown = record { amplitude = v; place = ch .shown .place };
+      signal = record { output = v; overflow = ch .signal .overflow; counter = ch .signal .counter };
+    }
 
+-- the overflow count becomes 0
 abbrev pub overflowCleared : Channel → Channel
-overflowCleared ch = with ch (ch .phase) (record { output = ch .shown .output; place = ch .shown .place; overflow = 0 })
+overflowCleared ch = withSignal ch (record { output = ch .signal .output; overflow = 0; counter = ch .signal .counter })
 
 -- only the trigger reaches the loaded tables, a phase or a pending level
 abbrev pub performOf : State → ℕ → Effect → State
@@ -166,9 +174,9 @@ statusOf ch F.Left = ch .shown .place .left .0
 abbrev pub readAt : List ℕ → Card → ℕ → Register → ℕ
 readAt s k a (R.Setting x) = word s a
 readAt s k a (R.Fixed x) = word s a
-readAt s k a (R.Output c) = channelOf k c .shown .output
+readAt s k a (R.Output c) = channelOf k c .signal .output
 readAt s k a (R.Status c f) = statusOf (channelOf k c) f
-readAt s k a (R.Overflow c) = channelOf k c .shown .overflow
+readAt s k a (R.Overflow c) = channelOf k c .signal .overflow
 readAt s k a (R.Slot l) = word s a
 readAt s k a (R.Image e) = imageOf s e
 readAt s k a R.Erase = 0
