@@ -216,6 +216,23 @@ triggered s l c ch level =
     })
     l)
 
+-- ---- a word done at A04 or at A39
+
+-- the output becomes v, and so does the amplitude, which 'an A04 write also sets'
+abbrev pub outputTo : Channel → ℕ → Channel
+outputTo ch v =
+    record {
+      phase = ch .phase;
+      level = ch .level;
+      loaded = ch .loaded;
+      shown = record { amplitude = v; place = ch .shown .place };
+      signal = record { output = v; overflow = ch .signal .overflow; counter = ch .signal .counter };
+    }
+
+-- 'any, sets 0'
+abbrev pub overflowCleared : Channel → Channel
+overflowCleared ch = withSignal ch (record { output = ch .signal .output; overflow = 0; counter = ch .signal .counter })
+
 -- ---- after a reset: 'loaded scale factor 0x0100', 'all else 0', 'no countdown, no ramp'; 'all reset to zero, the amplitude too'
 abbrev pub noTone : Tone
 noTone = record { mode = 0; frequency = 0; phase = 0 }

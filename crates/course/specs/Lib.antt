@@ -2,4 +2,5 @@ pub mod Points
 pub mod Course
 pub mod Follows
 pub mod Outputs
+pub mod Plain
 pub mod Ramps

@@ -1,45 +1,54 @@
--- The outputs of a ramp: each is the sum of a sample or, where that overflows, the output held just before.
+-- The amplitudes and outputs of a ramp, each from what was loaded and what stood there just before the start.
 use mathlib.Core.Path.{_≡_}
+use mathlib.Core.Bool.{true, cond}
+use mathlib.Core.Logic.{_⊎_}
 use mathlib.Core.List.{List}
-use Prim.Native.Nat.{ℕ, zero, suc, _+_, _*_, _-_, _≤_, _<_}
+use Prim.Native.Nat.{ℕ, zero, suc, _+_, _*_, _-_, _≤_, _<_, min}
 use lib.ListN.{length}
 use Rattle.map.specs.Addresses.{enableAt}
 use Rattle.sum.specs.declared.Sum.{Sum}
-use Rattle.sum.specs.declared.Sum.the-variants.{Word, Overflow}
+use Rattle.wave.specs.Sine.{sineOf}
 use Rattle.channel.specs.declared.Channel.{Channel}
-use Rattle.channel.specs.Ramp.{sampleAt}
-use Rattle.channel.specs.Channel.{Side, word, loadedFor, countdown, triggered}
-use Rattle.course.specs.Course.{Act, Tick, act, run, ticksIn, until, heldOn}
-use Rattle.course.specs.Follows.{tableFor, totalFor, placeFor}
+use Rattle.channel.specs.Ramp.{hold}
+use Rattle.channel.specs.Channel.{Side, word, countdown, triggered}
+use Rattle.course.specs.Course.{Act, Tick, act, run, ticksIn, until, heldOn, wavesOn}
+use Rattle.course.specs.Follows.{totalFor, sumFor, sineFor, freeFor, counterFor, Plays}
 
--- 'the rounded sum .. or, where that overflows, the output held just before'
-abbrev pub hold : Sum → ℕ → ℕ
-hold (Word v) o = v
-hold Overflow o = o
+-- 'the rounded sum .. or, where that overflows, the output held just before': after sum k, o being what stood there before sum 0
+abbrev pub latest : (ℕ → Sum) → ℕ → ℕ → ℕ
+latest sums o zero = hold (sums 0) o
+latest sums o (suc k) = hold (sums (suc k)) (latest sums o k)
 
--- the sum of sample k under the settings s
-abbrev pub sumFor : List ℕ → ℕ → ℕ → ℕ → Sum
-sumFor s c level k = sampleAt s (tableFor s c level) (loadedFor s c level) (placeFor s c level k)
+-- the amplitude at sample k, a being the one before the start; in free run it is that of the end's sample
+abbrev pub amplitudeFor : List ℕ → ℕ → ℕ → ℕ → ℕ → ℕ
+amplitudeFor s c level a k = latest (sumFor s c level) a (min k (totalFor s c level))
 
--- the output after sample k, o being the output before the start
-abbrev pub latest : List ℕ → ℕ → ℕ → ℕ → ℕ → ℕ
-latest s c level o zero = hold (sumFor s c level 0) o
-latest s c level o (suc k) = hold (sumFor s c level (suc k)) (latest s c level o k)
+-- the sum that sample k gives the output, w being its wave tables: in sine mode the sine of the amplitude at its counter
+abbrev pub outputSum : (ℕ → List ℕ) → List ℕ → ℕ → ℕ → ℕ → ℕ → Sum
+outputSum w s c level a k = cond (sineFor s c level) (sineOf (w k) c (counterFor s c level k) (amplitudeFor s c level a k)) (sumFor s c level k)
 
--- A trigger of a level sets the countdown d, the settings s are held on tick d − 10, and o is the output just before tick d. Channel c is
--- `now` after t ticks, and `later` just after the next.
-pub record Outputs (c level d : ℕ) (s : List ℕ) (o t : ℕ) (now later : Side) : Type 0 where
+-- after sample k another is to come
+abbrev pub GoesOn : List ℕ → ℕ → ℕ → ℕ → Type 0
+GoesOn s c level k = (k < totalFor s c level) ⊎ (freeFor s c level ≡ true)
+
+-- A trigger of a level sets the countdown d, the settings s are held on tick d − 10, w k are the wave tables of sample k, and a and o are
+-- amplitude and output just before tick d. Channel c is `now` after t ticks, and `later` just after the next.
+pub record Outputs (c level d : ℕ) (s : List ℕ) (w : ℕ → List ℕ) (a o t : ℕ) (now later : Side) : Type 0 where
   -- from sample k until the next
-  pub between : (k j : ℕ) → k < totalFor s c level → j < 10 → t ≡ d + 10 * k + j → now .channel .shown .output ≡ latest s c level o k
+  pub amplitude : (k j : ℕ) → GoesOn s c level k → j < 10 → t ≡ d + 10 * k + j → now .channel .shown .amplitude ≡ amplitudeFor s c level a k
+  pub output : (k j : ℕ) → GoesOn s c level k → j < 10 → t ≡ d + 10 * k + j → now .channel .signal .output ≡ latest (outputSum w s c level a) o k
   -- just after each sample, the last one too
-  pub just : (k : ℕ) → k ≤ totalFor s c level → t + 1 ≡ d + 10 * k → later .channel .shown .output ≡ latest s c level o k
+  pub justAmplitude : (k : ℕ) → Plays s c level k → t + 1 ≡ d + 10 * k → later .channel .shown .amplitude ≡ amplitudeFor s c level a k
+  pub justOutput : (k : ℕ) → Plays s c level k → t + 1 ≡ d + 10 * k → later .channel .signal .output ≡ latest (outputSum w s c level a) o k
 
 -- the trigger and the acts are those of demand 3, and the waveform is enabled on tick d
 unfoldable pub OutputsFollow : Type 0
 OutputsFollow =
     (s l : List ℕ) (c : ℕ) (ch : Channel) (level : ℕ) → 128 * c + 128 ≤ length l
-    → (xs : List Act) (z : List ℕ)
+    → (xs : List Act) (z w : List ℕ)
     → let d : ℕ = countdown s c level in
     let x : Side = triggered s l c ch level in
+    let before : Channel = run c x (until d xs) .channel in
     word (heldOn s z d xs) (enableAt c) ≡ 1
-    → Outputs c level d (heldOn s z (d - 10) xs) (run c x (until d xs) .channel .shown .output) (ticksIn xs) (run c x xs) (act c (run c x xs) (Tick z))
+    → Outputs c level d (heldOn s z (d - 10) xs) (λ k. wavesOn w (d + 10 * k) xs) (before .shown .amplitude) (before .signal .output) (ticksIn xs) (run c x xs)
+    (act c (run c x xs) (Tick z w))

@@ -16,7 +16,7 @@ use Rattle.slots.specs.declared.Holder.{Holder}
 use Rattle.slots.specs.declared.Holder.the-variants.{Level, Nobody}
 use Rattle.slots.specs.Slots.{otherOf, imageOf, erased}
 use Rattle.channel.specs.declared.Channel.{Channel}
-use Rattle.channel.specs.Channel.{word, withSignal, runsOf}
+use Rattle.channel.specs.Channel.{word, runsOf, outputTo, overflowCleared}
 use Rattle.card.specs.declared.Card.{Card}
 use Rattle.card.specs.Card.{State, state, channelOf, withChannel, countOf, withCount}
 use Rattle.card.specs.Trigger.{triggerOf}
@@ -106,21 +106,6 @@ effectOf R.ActiveLevel v = Nothing
 effectOf R.ActiveEvent v = Nothing
 effectOf (R.Count l) v = ClearCount l
 effectOf R.Unlisted v = Nothing
-
--- the output becomes v, and so does the amplitude, which 'an A04 write also sets'
-abbrev pub outputTo : Channel → ℕ → Channel
-outputTo ch v =
-    record {
-      phase = ch .phase;
-      level = ch .level;
-      loaded = ch .loaded;
-      shown = record { amplitude = v; place = ch .shown .place };
-      signal = record { output = v; overflow = ch .signal .overflow; counter = ch .signal .counter };
-    }
-
--- the overflow count becomes 0
-abbrev pub overflowCleared : Channel → Channel
-overflowCleared ch = withSignal ch (record { output = ch .signal .output; overflow = 0; counter = ch .signal .counter })
 
 -- only the trigger reaches the loaded tables, a phase or a pending level
 abbrev pub performOf : State → ℕ → Effect → State
