@@ -10,12 +10,19 @@ use crate::panel::{self, Plotted, Reading};
 pub const MAX_SLICE: usize = 0x1000;
 /// The digits of the longest frame: a write from a slice of 4096 words.
 pub const LONGEST: usize = 2 + 4 + 4 + 4 * MAX_SLICE;
+/// The most words of a wave table's frame that a line has room for.
+const MAX_WAVE: usize = (LONGEST - 4) / 4;
 
 /// One frame, as its first byte names it.
 #[derive(Debug, PartialEq, Eq)]
 pub enum Frame {
     /// One of the line program's.
     Line(line::Frame),
+    /// A wave table, of any number of words.
+    Wave {
+        channel: usize,
+        words: Vec<u16>,
+    },
     Write {
         start: u16,
         count: usize,
@@ -44,6 +51,7 @@ impl Frame {
         let (kind, rest) = line.split_at_checked(2)?;
         match field(kind)? {
             0x01..=0x04 => line::Frame::parse(line).map(Frame::Line),
+            0x10 => Frame::parse_wave(rest),
             0x11 => Frame::parse_write(fields(rest, 4, &mut [0; 2 + MAX_SLICE])?),
             0x12 => Frame::parse_read(fields(rest, 4, &mut [0; 4])?),
             0x18 => rest.is_empty().then_some(Frame::Reset),
@@ -51,6 +59,15 @@ impl Frame {
             0x1C => Frame::parse_panel(fields(rest, 4, &mut [0; 2])?),
             _ => None,
         }
+    }
+
+    /// A channel of two digits, and words.
+    fn parse_wave(rest: &[u8]) -> Option<Frame> {
+        let (channel, words) = rest.split_at_checked(2)?;
+        Some(Frame::Wave {
+            channel: usize::from(field(channel)?),
+            words: fields(words, 4, &mut [0; MAX_WAVE])?.to_vec(),
+        })
     }
 
     /// Start, count and a slice of words, whatever the count says.
@@ -100,6 +117,10 @@ impl Frame {
     pub fn perform(self, card: &mut Card, out: &mut impl Write) -> io::Result<()> {
         match self {
             Frame::Line(frame) => frame.perform(card, out),
+            Frame::Wave { channel, words } => {
+                let number = card.wave_table(channel, &words) as u8;
+                writeln!(out, "90{number:02X}")
+            }
             Frame::Write {
                 start,
                 count,
@@ -198,6 +219,80 @@ mod tests {
         }
     }
 
+    /// The frame of a wave table whose words are all the same.
+    fn wave(channel: &str, word: &str, words: usize) -> String {
+        format!("10{channel}{}", word.repeat(words))
+    }
+
+    #[test]
+    fn wave_tables_by_channel_length_and_word() {
+        for (channel, word, words, answer) in [
+            ("00", "4000", 1024, "9000"),
+            ("03", "C000", 1024, "9000"),
+            ("04", "0000", 1024, "9009"),
+            ("FF", "0000", 1024, "9009"),
+            ("00", "0000", 0, "9009"),
+            ("00", "0000", 1, "9009"),
+            ("00", "0000", 1023, "9009"),
+            ("00", "0000", 1025, "9009"),
+            ("00", "0000", 4096, "9009"),
+            ("00", "4001", 1024, "9009"),
+            ("00", "BFFF", 1024, "9009"),
+            ("00", "7FFF", 1024, "9009"),
+        ] {
+            let line = wave(channel, word, words);
+            assert_eq!(
+                answers(&line),
+                format!("{answer}\n"),
+                "{channel} {word} {words}"
+            );
+        }
+    }
+
+    #[test]
+    fn the_longest_wave_table_is_a_frame_and_too_long() {
+        let longest = wave("00", "0000", MAX_WAVE);
+        assert_eq!((MAX_WAVE, longest.len()), (4097, LONGEST - 2));
+        assert_eq!(answers(&longest), "9009\n");
+        for longer in ["0", "00", "000", "0000", "00000000"] {
+            assert_eq!(answers(&format!("{longest}{longer}")), "FF\n", "{longer}");
+        }
+        for other in ["0", "00", "000", "G", "000g", "\r"] {
+            let line = wave("00", "0000", 1024) + other;
+            assert_eq!(answers(&line), "FF\n", "{other:?}");
+        }
+    }
+
+    /// Channel 0 holds a ramp of one point, 1000, at level 1, in the mode.
+    fn one_point(mode: u16) -> String {
+        format!("0108010001\n01008003E80000\n010A000001\n010A01{mode:04X}\n")
+    }
+
+    #[test]
+    fn a_sine_in_free_run_by_frames() {
+        let wave = wave("00", "2000", 1024);
+        let frames = format!("{}010920C000\n{wave}\n0142020001\n", one_point(5));
+        let looks = format!("03000A\n03000A\n03000A\n010A040007\n{wave}\n100000\n1000\n");
+        let given = answers(&format!("{frames}{looks}18\n{wave}\n"));
+        let (_, given) = given.split_once("9000\n81000001\n").unwrap();
+        let outputs = "8301F4000000000000\n83FE0C000000000000\n83FE0C000000000000\n";
+        assert_eq!(
+            given,
+            format!("{outputs}81080000\n9008\nFF\n9009\n98\n9000\n")
+        );
+    }
+
+    #[test]
+    fn a_reset_forgets_the_wave_table() {
+        let wave = wave("00", "2000", 1024);
+        let trigger = "0142020001\n03000A\n";
+        let session = format!("{wave}\n{0}{trigger}18\n{0}{trigger}", one_point(1));
+        let given = answers(&session);
+        let (before, after) = given.split_once("98\n").unwrap();
+        assert!(before.ends_with("8301F4000000000000\n"));
+        assert!(after.ends_with("830000000000000000\n"));
+    }
+
     #[test]
     fn a_read_answers_the_whole_slice() {
         for (line, answer) in [
@@ -291,11 +386,11 @@ mod tests {
 
     #[test]
     fn damaged_lines_answer_ff() {
-        let damaged = "10 11 12 13 14 15 16 17 19 1A 1B 1C 1D 1E 1F 180 1800 110080 1100800 \
+        let damaged = "10 100 10000 100000 1000000 10000G 100G 100g 10000000001 11 12 13 14 15 16 17 19 1A 1B 1C 1D 1E 1F 180 1800 110080 1100800 \
             11008000010 110080000100070 1100800001000G 1208600001000155A 1208600001000155AA0 \
             1208600001000155aa 12086000010001 1B0000 1B00000 1B0000000 1B000000000 1b000000 \
             1C080000 1C0800000 1C080000000 1C0800000000 1c08000000 1C08000G00 91 98 9B00 14000A 1400000001 \
-            1500010000 1700 1701 1900 1A00 1000";
+            1500010000 1700 1701 1900 1A00 90 9000";
         for line in damaged.split_whitespace() {
             assert_eq!(answers(line), "FF\n", "{line}");
         }

@@ -2,9 +2,11 @@
 //! level shown.
 
 use super::*;
+use crate::channel::Phase;
+use crate::map::{CARD_ROWS, CHANNEL_ROWS};
 
 /// A card whose channel 0 runs table 1 at level 1 with entries 1, enabled.
-fn bench() -> Card {
+pub(super) fn bench() -> Card {
     let mut card = Card::reset();
     for (address, value) in [(0x0801, 1), (0x0841, 1), (0x0881, 1), (0x0A00, 1)] {
         set(&mut card, address, value);
@@ -12,16 +14,16 @@ fn bench() -> Card {
     card
 }
 
-fn write(card: &mut Card, start: u16, words: &[u16]) -> (Number, usize) {
+pub(super) fn write(card: &mut Card, start: u16, words: &[u16]) -> (Number, usize) {
     let answer = card.write(start, words.len(), words);
     (answer.number, answer.processed)
 }
 
-fn set(card: &mut Card, address: u16, value: u16) {
+pub(super) fn set(card: &mut Card, address: u16, value: u16) {
     assert_eq!(write(card, address, &[value]), (Number::Done, 1));
 }
 
-fn get(card: &Card, address: u16) -> u16 {
+pub(super) fn get(card: &Card, address: u16) -> u16 {
     let mut word = [0];
     assert_eq!(card.read(address, 1, &mut word).number, Number::Done);
     word[0]
@@ -33,7 +35,7 @@ fn read(card: &Card, start: u16, count: usize) -> (Number, usize) {
 }
 
 /// Writes the points (V, time step) of table 1 of channel 0.
-fn set_table(card: &mut Card, points: &[(i16, u16)]) {
+pub(super) fn set_table(card: &mut Card, points: &[(i16, u16)]) {
     for (n, &(value, step)) in points.iter().enumerate() {
         let words = [value as u16, step];
         let start = 0x0080 + 2 * n as u16;
@@ -41,27 +43,27 @@ fn set_table(card: &mut Card, points: &[(i16, u16)]) {
     }
 }
 
-fn set_sum(card: &mut Card, scale: u16, offset: i16) {
+pub(super) fn set_sum(card: &mut Card, scale: u16, offset: i16) {
     set(card, 0x0861, scale);
     set(card, 0x08A1, offset as u16);
 }
 
-fn manual(card: &mut Card, level: u16) {
+pub(super) fn manual(card: &mut Card, level: u16) {
     set(card, 0x4202, level);
 }
 
-fn ticks(card: &mut Card, count: usize) {
+pub(super) fn ticks(card: &mut Card, count: usize) {
     for _ in 0..count {
         card.tick();
     }
 }
 
-fn output(card: &Card) -> i16 {
+pub(super) fn output(card: &Card) -> i16 {
     card.outputs()[0] as i16
 }
 
 /// Segment and samples left of channel 0.
-fn shown(card: &Card) -> (u16, u16) {
+pub(super) fn shown(card: &Card) -> (u16, u16) {
     (get(card, 0x0A33), get(card, 0x0A34))
 }
 
@@ -75,7 +77,7 @@ fn samples(points: &[(i16, u16)], scale: u16, offset: i16) -> Vec<i16> {
     loop {
         ticks(&mut card, 10);
         given.push(output(&card));
-        if !card.channels[0].ramp_runs() {
+        if !card.channels[0].runs() {
             return given;
         }
     }
@@ -183,6 +185,9 @@ fn after_a_reset() {
         for zero in [0x7FF, 0x81F, 0x85F, 0x89F, 0x8BF, 0x8FF, 0xA00, 0xA04] {
             assert_eq!(get(&card, base + zero), 0);
         }
+        for zero in (0x900..=0x97F).chain([0xA01]) {
+            assert_eq!(get(&card, base + zero), 0);
+        }
         for zero in [0xA30, 0xA32, 0xA33, 0xA34, 0xA39] {
             assert_eq!(get(&card, base + zero), 0);
         }
@@ -199,7 +204,7 @@ fn regions_are_disjoint_and_in_order() {
         assert!(rows.iter().all(|row| row.0 <= row.1));
         assert!(rows.windows(2).all(|pair| pair[0].1 < pair[1].0));
     }
-    for unlisted in [0x0820, 0x08C0, 0x0900, 0x0A05, 0x0A35, 0x0FFF] {
+    for unlisted in [0x0820, 0x08C0, 0x0980, 0x0A02, 0x0A05, 0x0A35, 0x0FFF] {
         assert!(Place::find(unlisted).is_none());
     }
     for unlisted in [0x4203, 0x420F, 0x4212, 0x421F, 0x4240, 0x4400, 0xFFFF] {
@@ -293,6 +298,10 @@ fn accepted_values() {
         (0x0800, 15),
         (0x0840, 31),
         (0x0880, 31),
+        (0x0900, 31),
+        (0x091F, 31),
+        (0x0940, 31),
+        (0x095F, 31),
         (0x0A00, 1),
         (0x4000, 0xFF),
         (0x4200, 1),
@@ -307,6 +316,10 @@ fn accepted_values() {
         assert_eq!(stopped, (Number::BadValue, 0));
     }
     for address in [0x0080, 0x0861, 0x08A1, 0x08E0, 0x0A04, 0x0A39, 0x4220] {
+        set(&mut card, address, 0xFFFF);
+    }
+    // No entry of the frequencies and of the phases is fixed.
+    for address in [0x0920, 0x093F, 0x0960, 0x097F] {
         set(&mut card, address, 0xFFFF);
     }
     for fixed in [0x1000, 0x107F, 0x1860, 0x18A0] {
@@ -419,13 +432,13 @@ fn enable_counts_at_the_start_alone() {
     ticks(&mut card, 9);
     set(&mut card, 0x0A00, 1);
     ticks(&mut card, 1);
-    assert!(card.channels[0].ramp_runs());
+    assert!(card.channels[0].runs());
     set(&mut card, 0x0A00, 0);
     ticks(&mut card, 10);
     assert_eq!(output(&card), 100);
     // Disabled at its start the new ramp stays away; its load still aborts.
     manual(&mut card, 1);
-    assert!(!card.channels[0].ramp_runs());
+    assert!(!card.channels[0].runs());
     ticks(&mut card, 100);
     assert_eq!((output(&card), shown(&card)), (100, (0, 0)));
     assert_eq!(card.channels[0].phase, Phase::Rest);
@@ -555,7 +568,7 @@ fn an_event_on_the_tick_of_the_start_comes_after_the_first_sample() {
     ticks(&mut card, 9);
     card.event(0x20);
     assert_eq!((output(&card), shown(&card)), (50, (0, 4)));
-    assert!(card.channels[0].ramp_runs());
+    assert!(card.channels[0].runs());
     // The older ramp's next sample would fall on the tick of the load.
     ticks(&mut card, 10);
     assert_eq!((output(&card), shown(&card)), (50, (0, 0)));

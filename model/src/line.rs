@@ -2,7 +2,8 @@
 
 use std::io::{self, Write};
 
-use crate::card::{Answer, Card};
+use crate::card::Card;
+use crate::map::Answer;
 
 /// The most words a write frame carries and a read frame asks for.
 const MAX_WORDS: usize = 64;

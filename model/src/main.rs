@@ -2,11 +2,14 @@
 
 mod bench;
 mod card;
+mod channel;
 mod line;
+mod map;
 mod panel;
 mod program;
 mod reach;
 mod sessions;
+mod sine;
 
 use std::env;
 use std::fs::{self, File};

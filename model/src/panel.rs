@@ -1,6 +1,7 @@
 //! The panel: what a word shows, and the plotted points of a table.
 
-use crate::card::{Card, Place, Region};
+use crate::card::Card;
+use crate::map::{Place, Region};
 
 /// Microseconds of one sample, as a time step counts them.
 const SAMPLE_MICROSECONDS: f64 = 10.0;
@@ -95,8 +96,9 @@ mod tests {
             (0x08A0, 0x08BF, "VV"),
             (0x08C0, 0x08DF, "NN"),
             (0x08E0, 0x08FF, "MM"),
-            (0x0900, 0x09FF, "NN"),
-            (0x0A00, 0x0A07, "PNNNVNNN"),
+            (0x0900, 0x097F, "PP"),
+            (0x0980, 0x09FF, "NN"),
+            (0x0A00, 0x0A07, "PPNNVNNN"),
             (0x0A08, 0x0A2F, "NN"),
             (0x0A30, 0x0A3A, "PFVPPNNNNPN"),
             (0x0A3B, 0x0FFF, "NN"),

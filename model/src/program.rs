@@ -209,6 +209,7 @@ mod tests {
     #[test]
     fn the_line_program_knows_no_frame_of_the_bench() {
         for line in [
+            "1000",
             "1100800001ABCD",
             "120860000100015555",
             "18",

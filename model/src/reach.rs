@@ -1,11 +1,16 @@
 //! What sessions reach: things that are counted while they are played.
 
+mod sine;
+
+use std::collections::BTreeSet;
 use std::fmt;
 
 use crate::bench::Frame;
-use crate::card::{Card, Look, Trigger, CHANNELS, LOAD_AT, NULL_EVENT};
+use crate::card::{Card, CHANNELS, NULL_EVENT};
+use crate::channel::{Look, Trigger, LOAD_AT};
 use crate::line;
 use crate::program::Program;
+use sine::{Origin, Written};
 
 const NO_FRAME: &str = "lines that are no frame";
 const SHOWN: &str = "plotted points shown";
@@ -66,7 +71,7 @@ const LONG: u32 = 10;
 /// The things that a program's sessions can reach, in the order of printing.
 fn things(program: Program) -> Vec<String> {
     let bench = program == Program::Bench;
-    let more: &[u8] = &[0x11, 0x12, 0x18, 0x1B, 0x1C];
+    let more: &[u8] = &[0x10, 0x11, 0x12, 0x18, 0x1B, 0x1C];
     let mut things: Vec<String> = [0x01, 0x02, 0x03, 0x04]
         .iter()
         .chain(if bench { more } else { &[] })
@@ -80,6 +85,10 @@ fn things(program: Program) -> Vec<String> {
         things.extend([SHOWN, NOT_SHOWN, RESETS, RESETS_PENDING].map(String::from));
     }
     things.extend(OF_BOTH.map(String::from));
+    things.extend(sine::OF_BOTH.map(String::from));
+    if bench {
+        things.extend(sine::OF_BENCH.map(String::from));
+    }
     things
 }
 
@@ -144,8 +153,12 @@ struct Player<'a> {
     card: Card,
     /// The ticks each channel has waited for its load since the last trigger.
     waited: [u32; CHANNELS],
-    long_wait: bool,
-    long_pending: bool,
+    /// The channels that took a wave table since their load.
+    handed_in: [bool; CHANNELS],
+    /// What has set each channel's amplitude.
+    origin: [Origin; CHANNELS],
+    /// The things that are counted once a session.
+    session: BTreeSet<&'static str>,
 }
 
 impl<'a> Player<'a> {
@@ -154,15 +167,35 @@ impl<'a> Player<'a> {
             reach,
             card: Card::reset(),
             waited: [0; CHANNELS],
-            long_wait: false,
-            long_pending: false,
+            handed_in: [false; CHANNELS],
+            origin: [Origin::Reset; CHANNELS],
+            session: BTreeSet::new(),
         }
     }
 
     /// Counts what is of the whole session.
     fn finish(self) {
-        self.reach.add(LONG_WAIT, u64::from(self.long_wait));
-        self.reach.add(LONG_PENDING, u64::from(self.long_pending));
+        for thing in self.session {
+            self.reach.add(thing, 1);
+        }
+    }
+
+    fn is_bench(&self) -> bool {
+        self.reach.program == Program::Bench
+    }
+
+    /// Counts a thing where it is reached.
+    fn count(&mut self, thing: &str, reached: bool) {
+        if reached {
+            self.reach.add(thing, 1);
+        }
+    }
+
+    /// Counts a thing once a session where it is reached.
+    fn once(&mut self, thing: &'static str, reached: bool) {
+        if reached {
+            self.session.insert(thing);
+        }
     }
 
     /// Ticks are played singly, all other lines through the program.
@@ -188,21 +221,19 @@ impl<'a> Player<'a> {
         let before = self.card.looks();
         let pending = self.card.pending();
         self.card.tick();
-        let mut overflowed = 0;
-        for (channel, after) in self.card.looks().iter().enumerate() {
-            let grown = after.overflows.wrapping_sub(before[channel].overflows);
-            overflowed += u64::from(grown);
+        let after = self.card.looks();
+        for (channel, after) in after.iter().enumerate() {
+            self.count(OVERFLOWS, after.overflows != before[channel].overflows);
             let waits = after.countdown > LOAD_AT;
             self.waited[channel] = if waits { self.waited[channel] + 1 } else { 0 };
         }
-        if overflowed > 0 {
-            self.reach.add(OVERFLOWS, overflowed);
-        }
-        self.long_wait |= self.waited.iter().any(|&ticks| ticks > LONG);
-        self.long_pending |= self.waited.iter().all(|&ticks| ticks > LONG);
+        let long = |&ticks: &u32| ticks > LONG;
+        self.once(LONG_WAIT, self.waited.iter().any(long));
+        self.once(LONG_PENDING, self.waited.iter().all(long));
         if let (Some(trigger), None) = (pending, self.card.pending()) {
             self.shown(trigger, before);
         }
+        self.sine_tick(&before, &after);
         before.iter().any(loads_next)
     }
 
@@ -212,9 +243,9 @@ impl<'a> Player<'a> {
         let disabled = looks.iter().all(|look| !loads_next(look) || !look.enabled);
         let held = self.card.level_of(trigger.event) == Some(trigger.level);
         let unheld = trigger.event != NULL_EVENT && !held;
-        self.reach.add(SHOWN_LATE, 1);
-        self.reach.add(SHOWN_BY_DISABLED, u64::from(disabled));
-        self.reach.add(SHOWN_UNHELD, u64::from(unheld));
+        self.count(SHOWN_LATE, true);
+        self.count(SHOWN_BY_DISABLED, disabled);
+        self.count(SHOWN_UNHELD, unheld);
     }
 
     fn event(&mut self, event: u8) {
@@ -224,10 +255,11 @@ impl<'a> Player<'a> {
         let looks = self.card.looks();
         if self.card.receive(event) {
             self.triggered(looks);
+            self.sine_trigger(&looks, true);
             let again = shown && self.card.pending().is_some();
-            self.reach.add(LOAD_AND_EVENT, u64::from(loaded));
-            self.reach.add(SHOWN_AND_EVENT, u64::from(shown));
-            self.reach.add(SHOWN_AND_PENDING, u64::from(again));
+            self.count(LOAD_AND_EVENT, loaded);
+            self.count(SHOWN_AND_EVENT, shown);
+            self.count(SHOWN_AND_PENDING, again);
         }
     }
 
@@ -238,9 +270,9 @@ impl<'a> Player<'a> {
             .iter()
             .any(|look| look.ramp_runs && look.countdown > 0);
         let waited = is_pending(looks) && self.waited.iter().all(|&ticks| ticks > 0);
-        self.reach.add(WHILE_RUNNING, u64::from(runs));
-        self.reach.add(REPLACING, u64::from(waited));
-        self.reach.add(WHILE_OLDER, u64::from(older));
+        self.count(WHILE_RUNNING, runs);
+        self.count(REPLACING, waited);
+        self.count(WHILE_OLDER, older);
         self.waited = [0; CHANNELS];
     }
 
@@ -256,20 +288,22 @@ impl<'a> Player<'a> {
             return self.reach.add(NO_FRAME, 1);
         };
         let byte = |index: usize| line::field(&answer[2 * index..2 * index + 2]).unwrap() as u8;
+        let processed = || line::field(&answer[4..8]).unwrap();
         // An answer's first byte is the frame's with the highest bit set.
         let kind = byte(0) - 0x80;
         self.reach.add(&frame_name(kind), 1);
         match kind {
-            0x01 | 0x11 => {
-                self.reach.add(&number_name("writes", byte(1)), 1);
-                if start(&frame) == Some(0x4202) && byte(3) > 0 {
-                    self.triggered(looks);
-                }
-            }
+            0x01 | 0x11 => self.wrote(looks, &frame, byte(1), processed()),
             0x02 | 0x12 => {
                 self.reach.add(&number_name("reads", byte(1)), 1);
-                if let Some(start) = start(&frame).filter(|_| byte(3) > 0) {
+                if let Some(start) = start(&frame).filter(|_| processed() > 0) {
                     self.seen(start);
+                    self.sine_read(start);
+                }
+            }
+            0x10 => {
+                if let Frame::Wave { channel, words } = &frame {
+                    self.wave_table(&looks, *channel, words, byte(1));
                 }
             }
             0x18 => self.was_reset(looks),
@@ -280,6 +314,27 @@ impl<'a> Player<'a> {
             }
             _ => {}
         }
+    }
+
+    /// A write was answered; the looks are those just before.
+    fn wrote(&mut self, looks: [Look; CHANNELS], frame: &Frame, number: u8, processed: u16) {
+        self.reach.add(&number_name("writes", number), 1);
+        let (start, words) = match frame {
+            Frame::Line(line::Frame::Write { start, words }) => (*start, words),
+            Frame::Write { start, slice, .. } => (*start, slice),
+            _ => return,
+        };
+        if start == 0x4202 && processed > 0 {
+            self.triggered(looks);
+            self.sine_trigger(&looks, false);
+        }
+        let written = Written {
+            start,
+            words,
+            number,
+            processed,
+        };
+        self.sine_write(&looks, written);
     }
 
     /// The word at this address was read.
@@ -301,8 +356,9 @@ impl<'a> Player<'a> {
     /// The card was reset; the looks are those just before.
     fn was_reset(&mut self, looks: [Look; CHANNELS]) {
         let runs = looks.iter().any(|look| look.ramp_runs);
-        self.reach.add(RESETS, u64::from(runs));
-        self.reach.add(RESETS_PENDING, u64::from(is_pending(looks)));
+        self.count(RESETS, runs);
+        self.count(RESETS_PENDING, is_pending(looks));
+        self.sine_reset(&looks);
     }
 }
 
@@ -316,12 +372,10 @@ fn is_pending(looks: [Look; CHANNELS]) -> bool {
     looks.iter().all(|look| look.countdown > LOAD_AT)
 }
 
-/// The start of a transfer.
+/// The start of a read.
 fn start(frame: &Frame) -> Option<u16> {
     match *frame {
-        Frame::Line(line::Frame::Write { start, .. } | line::Frame::Read { start, .. })
-        | Frame::Write { start, .. }
-        | Frame::Read { start, .. } => Some(start),
+        Frame::Line(line::Frame::Read { start, .. }) | Frame::Read { start, .. } => Some(start),
         _ => None,
     }
 }
@@ -338,7 +392,7 @@ mod tests {
         reach.counts
     }
 
-    fn count(session: &str, thing: &str) -> u64 {
+    pub(super) fn count(session: &str, thing: &str) -> u64 {
         let counts = reached(Program::Bench, session);
         counts
             .iter()

@@ -1,6 +1,7 @@
 //! Random sessions for both programs, the same ones for the same seed.
 
 mod bench;
+mod sine;
 
 use std::fs;
 use std::io;
@@ -9,7 +10,7 @@ use std::path::Path;
 use crate::program::Program;
 
 /// Every region of the map of words, channel 0 standing for all channels.
-const REGIONS: [(u16, u16); 23] = [
+const REGIONS: [(u16, u16); 28] = [
     (0x0000, 0x07FF),
     (0x0800, 0x081F),
     (0x0840, 0x085F),
@@ -17,7 +18,12 @@ const REGIONS: [(u16, u16); 23] = [
     (0x0880, 0x089F),
     (0x08A0, 0x08BF),
     (0x08E0, 0x08FF),
+    (0x0900, 0x091F),
+    (0x0920, 0x093F),
+    (0x0940, 0x095F),
+    (0x0960, 0x097F),
     (0x0A00, 0x0A00),
+    (0x0A01, 0x0A01),
     (0x0A04, 0x0A04),
     (0x0A30, 0x0A30),
     (0x0A31, 0x0A31),
@@ -37,7 +43,7 @@ const REGIONS: [(u16, u16); 23] = [
 
 /// Addresses around the regions that belong to none.
 const UNLISTED: [u16; 20] = [
-    0x0820, 0x083F, 0x08C0, 0x08DF, 0x0900, 0x09FF, 0x0A01, 0x0A03, 0x0A05, 0x0A2F, 0x0A35, 0x0A38,
+    0x0820, 0x083F, 0x08C0, 0x08DF, 0x0980, 0x09FF, 0x0A02, 0x0A03, 0x0A05, 0x0A2F, 0x0A35, 0x0A38,
     0x0A3A, 0x0FFF, 0x4203, 0x4212, 0x421F, 0x4240, 0x4400, 0xFFFF,
 ];
 
@@ -120,13 +126,17 @@ fn session(program: Program, seed: u64, index: u64) -> Vec<u8> {
 type Step = (u16, fn(&mut Session));
 
 /// The kinds of steps a session of the line program is made of.
-const STEPS: [Step; 26] = [
+const STEPS: [Step; 30] = [
     (26, Session::some_ticks),
     (8, Session::trigger),
     (12, Session::awkward_moment),
     (4, Session::meet_a_sample),
     (4, Session::wait_for_the_first_load),
+    (2, Session::sine_moment),
     (12, Session::change_setting),
+    (3, Session::change_sine),
+    (2, Session::read_sine),
+    (1, Session::write_bad_sine),
     (5, Session::write_output),
     (3, Session::clear_count),
     (14, Session::read_status),
@@ -164,6 +174,13 @@ struct Session {
     events: [u16; 3],
     /// The delays as written, by channel and level.
     delays: [[u16; 32]; 4],
+    /// Whether its channels begin in sine mode.
+    sine: bool,
+    /// The wave tables it has left to hand in, and those to try or to spoil.
+    waves: u16,
+    whole_waves: u16,
+    /// The channels that were handed one.
+    waved: Vec<u16>,
 }
 
 impl Session {
@@ -172,7 +189,12 @@ impl Session {
         let apart = random.within(1, 10);
         let level = random.below(32);
         let budget = if random.percent(3) { 3 * TICKS } else { TICKS };
+        let bench = program == Program::Bench;
         Session {
+            sine: random.percent(if bench { 70 } else { 30 }),
+            waves: random.pick(&[1, 2, 2, 3]),
+            whole_waves: random.pick(&[0, 1, 1, 2]),
+            waved: Vec::new(),
             levels: [level, (level + apart) % 32, (level + 2 * apart) % 32],
             tables: std::array::from_fn(|_| random.within(1, 15)),
             entries: [0, random.within(1, 31), random.within(1, 31)],
@@ -192,7 +214,7 @@ impl Session {
         let lines = match self.random.below(100) {
             0..=9 => self.random.below(6),
             10..=12 => self.random.within(700, 1000),
-            _ => self.random.within(20, 150),
+            _ => self.random.within(28, 205),
         };
         usize::from(lines)
     }
@@ -323,6 +345,9 @@ impl Session {
             self.write(base + 0x860 + entry, &[scale]);
             self.write(base + 0x8A0 + entry, &[offset]);
         }
+        if self.sine && self.random.percent(60) {
+            self.set_up_sine(base);
+        }
         let enable = u16::from(self.random.percent(90));
         self.write(base + 0xA00, &[enable]);
     }
@@ -337,7 +362,7 @@ impl Session {
         }
     }
 
-    /// A scale or offset map entry for the level.
+    /// A map entry for the level, of scale factor, offset, frequency or phase.
     fn write_map(&mut self, map: u16, level: u16) {
         let [fixed, one, two] = self.entries;
         let entry = self.random.pick(&[fixed, one, one, two, two]);
@@ -739,6 +764,7 @@ impl Session {
             base + 0xA39,
             base + 0xA04,
             base + 0xA00,
+            base + 0xA01,
             0x4200,
             0x4210,
             0x4211,
@@ -1039,7 +1065,8 @@ mod tests {
                 reach.play(&session(program, 1, index));
             }
             let lines = reach.to_string();
-            assert!(!lines.contains(" 0 "), "{program:?}\n{lines}");
+            let missed = lines.lines().find(|line| line.trim().starts_with("0 "));
+            assert_eq!(missed, None, "{program:?}");
         }
     }
 

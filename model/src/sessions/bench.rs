@@ -7,7 +7,7 @@ use crate::bench::{LONGEST, MAX_SLICE};
 const SLICE: u16 = MAX_SLICE as u16;
 
 /// The kinds of steps a session of the bench program is made of.
-pub(super) const STEPS: [Step; 16] = [
+pub(super) const STEPS: [Step; 18] = [
     (100, Session::line_step),
     (3, Session::write_tables),
     (3, Session::write_region),
@@ -18,6 +18,8 @@ pub(super) const STEPS: [Step; 16] = [
     (5, Session::read_long),
     (3, Session::reset_in_mid_ramp),
     (3, Session::wait_for_the_first_load),
+    (5, Session::sine_moment),
+    (3, Session::wave_table),
     (5, Session::plot_a_new_table),
     (6, Session::plot_anywhere),
     (8, Session::show_a_region),
@@ -121,7 +123,14 @@ impl Session {
     /// A whole map with one value in it that is not accepted, or with none.
     fn write_map_with_a_bad_value(&mut self) {
         let base = self.base();
-        let (map, entries) = self.random.pick(&[(0x800, 16), (0x840, 32), (0x880, 32)]);
+        let maps = [
+            (0x800, 16),
+            (0x840, 32),
+            (0x880, 32),
+            (0x900, 32),
+            (0x940, 32),
+        ];
+        let (map, entries) = self.random.pick(&maps);
         let mut words: Vec<u16> = (0..32).map(|_| self.random.below(entries)).collect();
         if self.random.percent(80) {
             let bad = self.random.pick(&[entries, 0x0100, 0x8000, 0xFFFF]);
@@ -219,6 +228,8 @@ impl Session {
         }
         self.line(b"18");
         self.delays = [[0; 32]; 4];
+        self.waved.clear();
+        self.waves = self.waves.max(1);
         self.read(base + 128 * table, 6);
         self.read_active();
         for _ in 0..self.random.within(1, 4) {
@@ -313,6 +324,8 @@ impl Session {
             "110A040001ABCD".to_string(),
             "1208600002000355AA".to_string(),
             "120A3100010001AAAA".to_string(),
+            "1000".to_string(),
+            "1003400040004000".to_string(),
             format!("1B00{table:02X}00"),
             "1C0A04FFFF".to_string(),
         ];
@@ -323,8 +336,10 @@ impl Session {
     /// A first byte that names no frame, on a form that could be one.
     pub(super) fn unknown_bench_frame(&mut self) {
         let lines = [
-            "10000001",
             "10",
+            "100",
+            "100000",
+            "100000010",
             "13",
             "13000A",
             "1400000001",

@@ -1,0 +1,213 @@
+//! The map of words: its rows, the values they accept, and the numbers of refusals.
+
+use crate::channel::TABLE_WORDS;
+use crate::sine::Mode;
+
+/// The largest count a transfer may name.
+const MAX_COUNT: usize = 16_381;
+
+/// The number that a transfer or a wave table is answered with.
+#[derive(Clone, Copy, Debug, PartialEq, Eq)]
+#[repr(u8)]
+pub enum Number {
+    /// Every word done.
+    Done = 0,
+    /// Count 0, above 16,381, or above the slice's length.
+    BadCount = 1,
+    /// Start in no region.
+    NoRegion = 2,
+    /// Region lacks this access.
+    NoAccess = 3,
+    /// Next word lies beyond the start's region.
+    Beyond = 4,
+    /// Write to a fixed word, whatever the value.
+    Fixed = 5,
+    /// Value not accepted, reserved bits included.
+    BadValue = 6,
+    /// Event held by another level.
+    Held = 7,
+    /// Write to A04, or a wave table, while the channel runs or free-runs.
+    RampRuns = 8,
+    /// A wave table for a channel above 3, of a wrong length or with a word
+    /// out of range.
+    BadWave = 9,
+}
+
+/// A number and the words processed, counted only when really done.
+#[derive(Clone, Copy, Debug, PartialEq, Eq)]
+pub struct Answer {
+    pub number: Number,
+    pub processed: usize,
+}
+
+impl Answer {
+    pub fn new(number: Number, processed: usize) -> Self {
+        Answer { number, processed }
+    }
+}
+
+#[derive(Clone, Copy, Debug, PartialEq, Eq)]
+pub enum Access {
+    Read,
+    Write,
+    Both,
+}
+
+impl Access {
+    fn allows(self, wanted: Access) -> bool {
+        self == Access::Both || self == wanted
+    }
+}
+
+/// One row of the map of words.
+#[derive(Clone, Copy, Debug, PartialEq, Eq)]
+pub enum Region {
+    Tables,
+    RampMap,
+    ScaleMap,
+    Scales,
+    OffsetMap,
+    Offsets,
+    Delays,
+    FrequencyMap,
+    Frequencies,
+    PhaseMap,
+    Phases,
+    Enable,
+    Mode,
+    Output,
+    LoadedTable,
+    LoadedScale,
+    LoadedOffset,
+    Segment,
+    SamplesLeft,
+    Overflows,
+    TriggerMap,
+    EventImage,
+    ClockEnable,
+    Erase,
+    Manual,
+    ActiveLevel,
+    ActiveEvent,
+    LevelCounts,
+}
+
+impl Region {
+    /// Whether the value is accepted, reserved bits included.
+    pub fn accepts(self, value: u16) -> bool {
+        match self {
+            Region::RampMap => value <= 15,
+            Region::ScaleMap | Region::OffsetMap | Region::Manual => value <= 31,
+            Region::FrequencyMap | Region::PhaseMap => value <= 31,
+            Region::Enable | Region::ClockEnable | Region::Erase => value <= 1,
+            Region::Mode => Mode(value).is_accepted(),
+            Region::TriggerMap => value <= 0xFF,
+            _ => true,
+        }
+    }
+
+    /// Table 0 and entry 0 of the scale factors and of the offsets are fixed.
+    pub fn is_fixed(self, index: usize) -> bool {
+        match self {
+            Region::Tables => index < TABLE_WORDS,
+            Region::Scales | Region::Offsets => index == 0,
+            _ => false,
+        }
+    }
+}
+
+/// First address, last address, access and region.
+pub type Row = (u16, u16, Access, Region);
+
+/// The rows of one channel, from its base.
+pub const CHANNEL_ROWS: [Row; 20] = [
+    (0x000, 0x7FF, Access::Both, Region::Tables),
+    (0x800, 0x81F, Access::Both, Region::RampMap),
+    (0x840, 0x85F, Access::Both, Region::ScaleMap),
+    (0x860, 0x87F, Access::Both, Region::Scales),
+    (0x880, 0x89F, Access::Both, Region::OffsetMap),
+    (0x8A0, 0x8BF, Access::Both, Region::Offsets),
+    (0x8E0, 0x8FF, Access::Both, Region::Delays),
+    (0x900, 0x91F, Access::Both, Region::FrequencyMap),
+    (0x920, 0x93F, Access::Both, Region::Frequencies),
+    (0x940, 0x95F, Access::Both, Region::PhaseMap),
+    (0x960, 0x97F, Access::Both, Region::Phases),
+    (0xA00, 0xA00, Access::Both, Region::Enable),
+    (0xA01, 0xA01, Access::Both, Region::Mode),
+    (0xA04, 0xA04, Access::Both, Region::Output),
+    (0xA30, 0xA30, Access::Read, Region::LoadedTable),
+    (0xA31, 0xA31, Access::Read, Region::LoadedScale),
+    (0xA32, 0xA32, Access::Read, Region::LoadedOffset),
+    (0xA33, 0xA33, Access::Read, Region::Segment),
+    (0xA34, 0xA34, Access::Read, Region::SamplesLeft),
+    (0xA39, 0xA39, Access::Both, Region::Overflows),
+];
+
+/// The rows the four channels share.
+pub const CARD_ROWS: [Row; 8] = [
+    (0x4000, 0x40FF, Access::Both, Region::TriggerMap),
+    (0x4100, 0x41FF, Access::Read, Region::EventImage),
+    (0x4200, 0x4200, Access::Both, Region::ClockEnable),
+    (0x4201, 0x4201, Access::Write, Region::Erase),
+    (0x4202, 0x4202, Access::Write, Region::Manual),
+    (0x4210, 0x4210, Access::Read, Region::ActiveLevel),
+    (0x4211, 0x4211, Access::Read, Region::ActiveEvent),
+    (0x4220, 0x423F, Access::Both, Region::LevelCounts),
+];
+
+/// The place of an address: the region, its channel, and the word in it.
+#[derive(Clone, Copy, Debug)]
+pub struct Place {
+    pub region: Region,
+    access: Access,
+    pub channel: usize,
+    /// The address's word, counted from the region's first.
+    pub index: usize,
+    /// The words of the region.
+    words: usize,
+}
+
+impl Place {
+    /// The region an address belongs to, if any.
+    pub fn find(address: u16) -> Option<Place> {
+        let (rows, channel, offset) = if address < 0x4000 {
+            let channel = usize::from(address >> 12);
+            (&CHANNEL_ROWS[..], channel, address & 0x0FFF)
+        } else {
+            (&CARD_ROWS[..], 0, address)
+        };
+        let &(first, last, access, region) = rows
+            .iter()
+            .find(|&&(first, last, ..)| first <= offset && offset <= last)?;
+        Some(Place {
+            region,
+            access,
+            channel,
+            index: usize::from(offset - first),
+            words: usize::from(last - first) + 1,
+        })
+    }
+
+    /// The checks made once, in their order: 1, 2, 3.
+    pub fn check(start: u16, count: usize, length: usize, wanted: Access) -> Result<Place, Number> {
+        if count == 0 || count > MAX_COUNT || count > length {
+            return Err(Number::BadCount);
+        }
+        let place = Place::find(start).ok_or(Number::NoRegion)?;
+        if place.access.allows(wanted) {
+            Ok(place)
+        } else {
+            Err(Number::NoAccess)
+        }
+    }
+
+    /// The same region, `step` words on, or 4 if that lies beyond it.
+    pub fn word(self, step: usize) -> Result<Place, Number> {
+        let index = self.index + step;
+        if index < self.words {
+            Ok(Place { index, ..self })
+        } else {
+            Err(Number::Beyond)
+        }
+    }
+}
