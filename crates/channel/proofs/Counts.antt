@@ -1,17 +1,29 @@
 -- A countdown that falls by one and one that a trigger sets, as the code tells the cases apart. Assumes nothing.
-use mathlib.Core.Path.{_≡_, ap}
+use mathlib.Core.Path.{_≡_, refl, ap}
+use mathlib.Core.Bool.{Bool, true, false, cond}
 use mathlib.Core.List.{List}
 use Prim.Native.Nat.{ℕ, _-_, _≤_, _<_}
 use native.Mathlib.Omega.{arith}
+use lib.Dec.{eqb}
 use borrow.Author.Tests.{eq-eqb, ne-eqb}
-use Rattle.map.specs.Addresses.{delayAt}
+use Rattle.word.specs.Word.{lasting}
+use Rattle.map.specs.Addresses.{delayAt, enableAt}
 use Rattle.channel.specs.declared.Channel.{Channel}
 use Rattle.channel.specs.declared.Ramp.{Ramp}
-use Rattle.channel.specs.declared.Phase.the-variants.{Counting}
-use Rattle.channel.specs.Ramp.{advance}
-use Rattle.channel.specs.Channel.{side, move, quiet, with, word, firstOf, rampOf, lead, load, start, countTo, countdown, triggered}
+use Rattle.channel.specs.declared.Phase.the-variants.{Rest, Counting}
+use Rattle.channel.specs.Ramp.{enter, given, advance}
+use Rattle.channel.specs.Channel.{side, move, quiet, movedOn, with, word, firstOf, rampOf, lead, load, start, countTo, countdown, triggered}
 
 module _ (s l : List ℕ) (c : ℕ) (ch : Channel) where
+  -- a start leaves the tables
+  pub start-tables : l ≡ start s l c ch .tables
+  unfolding start
+  start-tables = go (eqb (word s (enableAt c)) 1)
+    where
+      go : (b : Bool) → l ≡ cond b (movedOn ch l (given true l (firstOf c) (ch .loaded) (lasting 1) (enter l (firstOf c) 0) (ch .shown))) (quiet (side (with ch Rest (ch .shown)) l)) .tables
+      go true = refl
+      go false = refl
+
   module _ (older : Ramp) (n : ℕ) where
     -- the countdown reaches 0, reaches 10, or neither
     pub at-start : n ≤ 1 → countTo (n - 1) older s l c ch ≡ start s l c ch

@@ -360,7 +360,7 @@ fn settings_for(settings: &[u16], c: u16, level: u16) -> Loaded
 fn tone_for(settings: &[u16], c: u16, level: u16) -> Tone
     ensures { λ r. ⌜ r ≡ toneFor (lent settings) c level ⌝ }
 {
-    let mode = word_at(settings, c, 0xA01, 0);
+    let mode = word::get(settings, (c as usize) * 0x1000 + 0xA01);
     let frequency_entry = word_at(settings, c, 0x900, level);
     let phase_entry = word_at(settings, c, 0x940, level);
     Tone {

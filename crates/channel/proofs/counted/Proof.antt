@@ -1,3 +1,4 @@
+-- `channel::counted` meets its contract. Assumes nothing.
 use borrow.Author.Needs.{needs}
 use Rattle.channel.proofs.counted.Statement.{statement}
 use Rattle.channel.proofs.counted.Tie as tie
@@ -6,7 +7,7 @@ grow-requires : tie.Need-grow-requires
 grow-requires c κs = search needs
 
 returns : tie.Need-returns
-returns c = ?
+returns c = rw (c .before .if1 .taken) (c .grow .ensures)
 
 returns-2 : tie.Need-returns-2
 returns-2 c = search needs

@@ -22,12 +22,11 @@ same-length c = search needs
 returns : tie.Need-returns
 unfolding load
 returns c =
-    let a = c .before .before .before .before .before .before .before .before .args in
-    let e = c .before .before .before .before .before .settings-for .ensures in (
-      ap (λ (x : Loaded). record { phase = Counting (record { 0 = 10 }) Still; level = a .level; loaded = x; shown = blank (a .ch .shown) }) e,
-      c .before .before .before .copy-table .ensures ∙ ap (λ (x : Loaded). copied 128 (a .settings .now) (tableAt (a .c) (x .table)) (a .tables .now) (firstOf (a .c))) e,
+    let a = c .before .before .before .before .before .before .before .before .before .args in
+    let e = c .before .before .before .before .before .before .settings-for .ensures in (
+      ap (λ (x : Loaded). record { phase = Counting (record { 0 = 10 }) Still; level = a .level; loaded = x; shown = blank (a .ch .shown); signal = a .ch .signal }) e,
+      c .before .before .before .before .copy-table .ensures ∙ ap (λ (x : Loaded). copied 128 (a .settings .now) (tableAt (a .c) (x .table)) (a .tables .now) (firstOf (a .c))) e,
     )
 
 pub load-level-spec : {M : Type 1} → statement M
-load-level-spec =
-    tie.close (tie.spec settings-for-requires copy-table-requires same-length returns)
+load-level-spec = tie.close (tie.spec settings-for-requires copy-table-requires same-length returns)

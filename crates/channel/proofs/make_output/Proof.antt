@@ -1,6 +1,18 @@
+-- `channel::make_output` meets its contract, by the sample that was given. Assumes nothing.
 use borrow.Author.Needs.{needs}
+use mathlib.Core.Path.{_≡_, sym, ap, _∙_}
+use mathlib.Core.List.{List}
+use Prim.Native.Nat.{ℕ}
+use Rattle.channel.specs.declared.Gave.{Gave}
+use Rattle.channel.specs.declared.Signal.{Signal}
+use Rattle.channel.specs.declared.Channel.{Channel}
+use Rattle.channel.specs.Signal.{makeOf}
+use Rattle.channel.specs.Channel.{withSignal, sounded}
 use Rattle.channel.proofs.make_output.Statement.{statement}
 use Rattle.channel.proofs.make_output.Tie as tie
+
+told : (w : List ℕ) (i : ℕ) (ch : Channel) {r x : Gave} → r ≡ x → sounded w i ch x ≡ sounded w i ch r
+told w i ch e = ap (λ (y : Gave). sounded w i ch y) (sym e)
 
 enum-told : tie.Need-enum-told
 enum-told c = search needs
@@ -24,13 +36,18 @@ with-signal-requires-2 : tie.Need-with-signal-requires-2
 with-signal-requires-2 c κs = search needs
 
 returns : tie.Need-returns
-returns c = ?
+unfolding makeOf
+returns c = let a = c .before .before .before .before .before .args in told (a .waves .now) (a .c) (a .t .channel) (c .enum-told .given .1)
 
 returns-2 : tie.Need-returns-2
-returns-2 c = ?
+returns-2 c =
+    let a = c .before .before .before .before .before .before .before .before .args in
+    c .with-signal .ensures ∙ ap (withSignal (a .t .channel)) (c .before .ramp-signal .ensures) ∙ told (a .waves .now) (a .c) (a .t .channel) (c .before .before .before .gave .given .1)
 
 returns-3 : tie.Need-returns-3
-returns-3 c = ?
+returns-3 c =
+    let a = c .before .before .before .before .before .before .before .args in
+    c .with-signal2 .ensures ∙ ap (withSignal (a .t .channel)) (c .before .free-signal .ensures) ∙ told (a .waves .now) (a .c) (a .t .channel) (c .before .before .enum-told2 .given .1)
 
 pub make-output-spec : {M : Type 1} → statement M
 make-output-spec =

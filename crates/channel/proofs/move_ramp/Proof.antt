@@ -1,20 +1,23 @@
--- `channel::tick` meets its contract, by the phase. Assumes nothing.
+-- `channel::move_ramp` meets its contract, by the phase. Assumes nothing.
 use borrow.Author.Needs.{needs}
 use mathlib.Core.Path.{_≡_, sym, ap, _∙_}
 use mathlib.Core.List.{List}
 use Prim.Native.Nat.{ℕ}
 use Rattle.channel.specs.declared.Channel.{Channel}
 use Rattle.channel.specs.declared.Phase.{Phase}
-use Rattle.channel.specs.Channel.{Side, tickAt}
-use Rattle.channel.proofs.tick.Statement.{statement}
-use Rattle.channel.proofs.tick.Tie as tie
+use Rattle.channel.specs.Channel.{Move, ticked, moveAt}
+use Rattle.channel.proofs.move_ramp.Statement.{statement}
+use Rattle.channel.proofs.move_ramp.Tie as tie
 
 -- what the phase q does, the channel's phase r does
-told : (s l : List ℕ) (c : ℕ) (ch : Channel) {r q : Phase} → r ≡ q → tickAt q s l c ch ≡ tickAt r s l c ch
-told s l c ch e = ap (λ (p : Phase). tickAt p s l c ch) (sym e)
+told : (s l : List ℕ) (c : ℕ) (ch : Channel) {r q : Phase} → r ≡ q → moveAt q s l c ch ≡ moveAt r s l c ch
+told s l c ch e = ap (λ (p : Phase). moveAt p s l c ch) (sym e)
 
 enum-told : tie.Need-enum-told
 enum-told c = search needs
+
+quiet-requires : tie.Need-quiet-requires
+quiet-requires c κs = search needs
 
 enum-known-p : tie.Need-enum-known-p
 enum-known-p c = search needs
@@ -28,36 +31,53 @@ enum-known-p-2 c = search needs
 run-requires : tie.Need-run-requires
 run-requires c κs = search needs
 
+enum-known-p-3 : tie.Need-enum-known-p-3
+enum-known-p-3 c = search needs
+
+run-requires-2 : tie.Need-run-requires-2
+run-requires-2 c κs = search needs
+
 returns : tie.Need-returns
-unfolding tickAt
-returns c =
-    let a = c .before .before .args in
-    let e = told (a .settings .now) (a .tables .now) (a .c) (a .ch) (c .enum-told .given .1) in
-    (ap (λ (x : Side). x .channel) e, ap (λ (x : Side). x .tables) e)
+unfolding moveAt
+returns c = 
+    let a = c .before .before .before .args in
+    let e = told (a .settings .now) (a .tables .now) (a .c) (a .ch) (c .before .enum-told .given .1) in
+    (c .quiet .ensures ∙ ap ticked e, ap (λ (x : Move). x .tables) e)
 
 returns-2 : tie.Need-returns-2
-unfolding tickAt
-returns-2 c =
+unfolding moveAt
+returns-2 c = 
     let a = c .before .before .before .before .before .before .args in
     let e = told (a .settings .now) (a .tables .now) (a .c) (a .ch) (c .before .before .before .before .p .given .1) in
-    (c .count .ensures .0 ∙ ap (λ (x : Side). x .channel) e, c .count .ensures .1 ∙ ap (λ (x : Side). x .tables) e)
+    (c .count .ensures .0 ∙ ap ticked e, c .count .ensures .1 ∙ ap (λ (x : Move). x .tables) e)
 
 returns-3 : tie.Need-returns-3
-unfolding tickAt
-returns-3 c =
+unfolding moveAt
+returns-3 c = 
     let a = c .before .before .before .before .before .before .args in
     let e = told (a .settings .now) (a .tables .now) (a .c) (a .ch) (c .before .before .before .before .p2 .given .1) in
-    (c .run .ensures ∙ ap (λ (x : Side). x .channel) e, ap (λ (x : Side). x .tables) e)
+    (c .run .ensures ∙ ap ticked e, ap (λ (x : Move). x .tables) e)
 
-pub tick-spec : {M : Type 1} → statement M
-tick-spec =
+returns-4 : tie.Need-returns-4
+unfolding moveAt
+returns-4 c = 
+    let a = c .before .before .before .before .before .before .args in
+    let e = told (a .settings .now) (a .tables .now) (a .c) (a .ch) (c .before .before .before .before .p3 .given .1) in
+    (c .run2 .ensures ∙ ap ticked e, ap (λ (x : Move). x .tables) e)
+
+pub move-ramp-spec : {M : Type 1} → statement M
+move-ramp-spec =
     tie.close
     (tie.spec
     enum-told
+    quiet-requires
     enum-known-p
     count-requires
     enum-known-p-2
     run-requires
+    enum-known-p-3
+    run-requires-2
     returns
     returns-2
-    returns-3)
+    returns-3
+    returns-4)

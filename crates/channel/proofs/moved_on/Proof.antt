@@ -1,3 +1,4 @@
+-- `channel::moved_on` meets its contract. Assumes nothing.
 use borrow.Author.Needs.{needs}
 use Rattle.channel.proofs.moved_on.Statement.{statement}
 use Rattle.channel.proofs.moved_on.Tie as tie
@@ -9,7 +10,7 @@ in-phase-requires : tie.Need-in-phase-requires
 in-phase-requires c κs = search needs
 
 returns : tie.Need-returns
-returns c = ?
+returns c = rw (c .in-phase .ensures, c .before .ramp-phase .ensures)
 
 pub moved-on-spec : {M : Type 1} → statement M
 moved-on-spec = tie.close (tie.spec ramp-phase-requires in-phase-requires returns)

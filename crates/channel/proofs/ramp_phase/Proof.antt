@@ -1,6 +1,13 @@
+-- `channel::ramp_phase` meets its contract, case by case. Assumes nothing.
 use borrow.Author.Needs.{needs}
+use mathlib.Core.Path.{_≡_, sym, ap}
+use Rattle.channel.specs.declared.Ramp.{Ramp}
+use Rattle.channel.specs.Channel.{phaseOf}
 use Rattle.channel.proofs.ramp_phase.Statement.{statement}
 use Rattle.channel.proofs.ramp_phase.Tie as tie
+
+told : {r s : Ramp} → r ≡ s → phaseOf s ≡ phaseOf r
+told e = ap phaseOf (sym e)
 
 enum-told : tie.Need-enum-told
 enum-told c = search needs
@@ -15,10 +22,10 @@ returns : tie.Need-returns
 returns c = search needs
 
 returns-2 : tie.Need-returns-2
-returns-2 c = ?
+returns-2 c = told (c .before .r .given .1)
 
 returns-3 : tie.Need-returns-3
-returns-3 c = ?
+returns-3 c = told (c .before .r2 .given .1)
 
 pub ramp-phase-spec : {M : Type 1} → statement M
 ramp-phase-spec =

@@ -1,4 +1,7 @@
+-- `channel::ramp_signal` meets its contract, by the mode. Assumes nothing.
 use borrow.Author.Needs.{needs}
+use mathlib.Core.Path.{sym, _∙_}
+use Rattle.channel.specs.Signal.{makeOf}
 use Rattle.channel.proofs.ramp_signal.Statement.{statement}
 use Rattle.channel.proofs.ramp_signal.Tie as tie
 
@@ -15,13 +18,15 @@ sine-after-requires : tie.Need-sine-after-requires
 sine-after-requires c κs = search needs
 
 returns : tie.Need-returns
-returns c = ?
+unfolding makeOf
+returns c = c .sine-after .ensures ∙ rw (c .before .is-overflow .ensures, c .before .before .counter-at .ensures, sym (c .before .before .before .before .is-sine .ensures) ∙ c .before .before .before .if1 .taken)
 
 signal-after-requires : tie.Need-signal-after-requires
 signal-after-requires c κs = search needs
 
 returns-2 : tie.Need-returns-2
-returns-2 c = ?
+unfolding makeOf
+returns-2 c = c .signal-after .ensures ∙ rw (sym (c .before .before .is-sine .ensures) ∙ c .before .if1 .left)
 
 pub ramp-signal-spec : {M : Type 1} → statement M
 ramp-signal-spec =

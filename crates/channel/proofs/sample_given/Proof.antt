@@ -1,4 +1,6 @@
+-- `channel::sample_given` meets its contract. Assumes nothing.
 use borrow.Author.Needs.{needs}
+use Rattle.channel.specs.Ramp.{given}
 use Rattle.channel.proofs.sample_given.Statement.{statement}
 use Rattle.channel.proofs.sample_given.Tie as tie
 
@@ -12,7 +14,8 @@ ramp-after-requires : tie.Need-ramp-after-requires
 ramp-after-requires c κs = search needs
 
 returns : tie.Need-returns
-returns c = ?
+unfolding given
+returns c = rw (c .ramp-after .ensures, c .before .shown-after .ensures, c .before .before .sample-at .ensures)
 
 pub sample-given-spec : {M : Type 1} → statement M
 sample-given-spec =

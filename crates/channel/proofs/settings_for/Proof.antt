@@ -1,3 +1,4 @@
+-- `channel::settings_for` meets its contract. Assumes nothing.
 use borrow.Author.Needs.{needs}
 use Rattle.channel.proofs.settings_for.Statement.{statement}
 use Rattle.channel.proofs.settings_for.Tie as tie
@@ -21,7 +22,7 @@ tone-for-requires : tie.Need-tone-for-requires
 tone-for-requires c κs = search needs
 
 returns : tie.Need-returns
-returns c = ?
+returns c = rw (c .tone-for .ensures, c .before .word-at5 .ensures, c .before .before .word-at4 .ensures, c .before .before .before .word-at3 .ensures, c .before .before .before .before .word-at2 .ensures, c .before .before .before .before .before .word-at .ensures)
 
 pub settings-for-spec : {M : Type 1} → statement M
 settings-for-spec =

@@ -1,4 +1,6 @@
+-- `channel::sine_after` meets its contract. Assumes nothing.
 use borrow.Author.Needs.{needs}
+use mathlib.Core.Path.{_∙_}
 use Rattle.channel.proofs.sine_after.Statement.{statement}
 use Rattle.channel.proofs.sine_after.Tie as tie
 
@@ -9,7 +11,7 @@ signal-after-requires : tie.Need-signal-after-requires
 signal-after-requires c κs = search needs
 
 returns : tie.Need-returns
-returns c = ?
+returns c = c .signal-after .ensures ∙ rw (c .before .sine .ensures)
 
 pub sine-after-spec : {M : Type 1} → statement M
 sine-after-spec = tie.close (tie.spec sine-requires signal-after-requires returns)

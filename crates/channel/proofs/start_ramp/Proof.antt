@@ -1,4 +1,8 @@
+-- `channel::start_ramp` meets its contract: the ramp starts, or nothing does. Assumes nothing.
 use borrow.Author.Needs.{needs}
+use mathlib.Core.Path.{sym, _∙_}
+use borrow.Author.Tests.{eq-eqb, ne-eqb}
+use Rattle.channel.specs.Channel.{start}
 use Rattle.channel.proofs.start_ramp.Statement.{statement}
 use Rattle.channel.proofs.start_ramp.Tie as tie
 
@@ -24,7 +28,8 @@ moved-on-requires : tie.Need-moved-on-requires
 moved-on-requires c κs = search needs
 
 returns : tie.Need-returns
-returns c = ?
+unfolding start
+returns c = c .moved-on .ensures ∙ rw (c .before .sample-given .ensures, c .before .before .point .ensures, c .before .before .before .micros .ensures, eq-eqb _ 1 (sym (c .before .before .before .before .before .get .ensures) ∙ c .before .before .before .before .if1 .taken))
 
 in-phase-requires : tie.Need-in-phase-requires
 in-phase-requires c κs = search needs
@@ -33,7 +38,8 @@ quiet-requires : tie.Need-quiet-requires
 quiet-requires c κs = search needs
 
 returns-2 : tie.Need-returns-2
-returns-2 c = ?
+unfolding start
+returns-2 c = c .quiet .ensures ∙ rw (c .before .in-phase .ensures, ne-eqb _ 1 (λ e. c .before .before .if1 .left (c .before .before .before .get .ensures ∙ e)))
 
 pub start-ramp-spec : {M : Type 1} → statement M
 start-ramp-spec =
