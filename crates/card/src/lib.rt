@@ -1,19 +1,22 @@
-// The card: four channels, triggers, clock events and ticks. Settings and loaded tables are lent, the rest goes by value.
+// The card: four channels, triggers, clock events and ticks. Settings, loaded tables and wave tables are lent, the rest goes by value.
 use channel::Channel;
 use channel::Loaded;
 use channel::Phase;
 use channel::Place;
 use channel::Shown;
+use channel::Signal;
+use channel::Ticked;
+use channel::Tone;
 use slots::Holder;
 use word::Samples;
 ghost use mathlib.Core.Path.{_≡_};
 ghost use mathlib.Core.Bool.{cond};
 ghost use Rattle.word.specs.Lent.{lent, left};
-ghost use Rattle.card.specs.Card.{before, Leaves, LeavesWhole, LeavesAll, noChannel, channelOf, withChannel, countOf, withCount};
+ghost use Rattle.card.specs.Card.{before, Leaves, LeavesWhole, LeavesAll, noChannel, channelOf, withChannel, withChannels, countOf, withCount};
 ghost use Rattle.card.specs.Active.{cause, someLoaded, showing};
 ghost use Rattle.card.specs.Trigger.{counted, keeping, struck, triggerOf, acceptedOf, eventOf};
-ghost use Rattle.card.specs.Tick.{advanced, tickWith, ticks};
-ghost use Rattle.card.specs.Reset.{settingsReset, cardReset, resetOf};
+ghost use Rattle.card.specs.Tick.{moving, making, moved, advanced, tickWith, ticks};
+ghost use Rattle.card.specs.Reset.{settingsReset, wavesReset, cardReset, resetOf};
 
 // What causes a ramp: an accepted trigger's level, and its event, 0xFE if manual.
 pub struct Cause {
@@ -29,31 +32,56 @@ pub struct Card {
     pub pending: Cause,
 }
 
-// Settings, loaded tables and card after a reset.
-pub fn reset(settings: &mut [u16; 16960], tables: &mut [u16; 512]) -> Card
-    ensures { λ r. ⌜ LeavesWhole (resetOf (lent settings) (lent tables)) r settings tables ⌝ }
+// The four channels after the first pass of a tick, with the samples that they gave.
+pub struct Pass {
+    pub zero: Ticked,
+    pub one: Ticked,
+    pub two: Ticked,
+    pub three: Ticked,
+}
+
+// Settings, loaded tables, wave tables and card after a reset.
+pub fn reset(
+    settings: &mut [u16; 16960],
+    tables: &mut [u16; 512],
+    waves: &mut [u16; 4096],
+) -> Card
+    ensures { λ r. ⌜ LeavesWhole (resetOf (lent settings) (lent tables)) r settings tables × (left waves ≡ wavesReset (lent waves)) ⌝ }
 {
     reset_settings(settings);
     slots::fill(tables, 0, 512, 0);
+    slots::fill(waves, 0, 4096, 0);
     fresh()
 }
 
 // One tick: every channel moves on by a microsecond, then the event is taken. 0xFE is no event.
-pub fn tick(settings: &[u16; 16960], tables: &mut [u16; 512], card: Card, event: u16) -> Card
-    ensures { λ r. ⌜ Leaves (tickWith (before card settings tables) event) r tables ⌝ }
+pub fn tick(
+    settings: &[u16; 16960],
+    tables: &mut [u16; 512],
+    waves: &[u16; 4096],
+    card: Card,
+    event: u16,
+) -> Card
+    ensures { λ r. ⌜ Leaves (tickWith (lent waves) (before card settings tables) event) r tables ⌝ }
 {
-    let k = advance(settings, tables, card);
+    let k = advance(settings, tables, waves, card);
     receive(settings, tables, k, event)
 }
 
 // n ticks with no event.
-pub fn run(settings: &[u16; 16960], tables: &mut [u16; 512], card: Card, n: u32) -> Card
-    ensures { λ r. ⌜ Leaves (ticks n (before card settings tables)) r tables ⌝ }
+pub fn run(
+    settings: &[u16; 16960],
+    tables: &mut [u16; 512],
+    waves: &[u16; 4096],
+    card: Card,
+    n: u32,
+) -> Card
+    ensures { λ r. ⌜ Leaves (ticks (lent waves) n (before card settings tables)) r tables ⌝ }
 {
     let mut k = card;
     let mut i: u32 = 0;
     while i < n {
-        k = advance(settings, tables, k);
+        k = advance(settings, tables, waves, k);
         i = i + 1;
     }
     k
@@ -113,23 +141,56 @@ pub fn with_count(card: Card, level: usize, n: u16) -> Card
     k
 }
 
-// Every channel one microsecond on; a load shows the pending trigger.
-fn advance(settings: &[u16; 16960], tables: &mut [u16; 512], card: Card) -> Card
-    ensures { λ r. ⌜ Leaves (advanced (before card settings tables)) r tables ⌝ }
+// Every channel one microsecond on, in two passes; a load shows the pending trigger.
+fn advance(
+    settings: &[u16; 16960],
+    tables: &mut [u16; 512],
+    waves: &[u16; 4096],
+    card: Card,
+) -> Card
+    ensures { λ r. ⌜ Leaves (advanced (lent waves) (before card settings tables)) r tables ⌝ }
 {
-    let a = channel::tick(settings, tables, 0, card.channels[0]);
-    let b = channel::tick(settings, tables, 1, card.channels[1]);
-    let c = channel::tick(settings, tables, 2, card.channels[2]);
-    let d = channel::tick(settings, tables, 3, card.channels[3]);
+    let pass = move_ramps(settings, tables, card);
+    show(make_outputs(waves, card, pass))
+}
+
+// First pass: every channel's ramp value moves.
+fn move_ramps(settings: &[u16; 16960], tables: &mut [u16; 512], card: Card) -> Pass
+    ensures { λ r. ⌜ (r ≡ moving (before card settings tables) .pass) × (left tables ≡ moving (before card settings tables) .tables) ⌝ }
+{
+    let a = channel::move_ramp(settings, tables, 0, card.channels[0]);
+    let b = channel::move_ramp(settings, tables, 1, card.channels[1]);
+    let c = channel::move_ramp(settings, tables, 2, card.channels[2]);
+    let d = channel::move_ramp(settings, tables, 3, card.channels[3]);
+    Pass {
+        zero: a,
+        one: b,
+        two: c,
+        three: d,
+    }
+}
+
+// Second pass: the outputs are made.
+fn make_outputs(waves: &[u16; 4096], card: Card, pass: Pass) -> Card
+    ensures { λ r. ⌜ r ≡ withChannels card (making (lent waves) pass) ⌝ }
+{
+    let zero = pass.zero;
+    let one = pass.one;
+    let two = pass.two;
+    let three = pass.three;
+    let a = channel::make_output(waves, 0, zero);
+    let b = channel::make_output(waves, 1, one);
+    let c = channel::make_output(waves, 2, two);
+    let d = channel::make_output(waves, 3, three);
     let counts = card.counts;
     let active = card.active;
     let pending = card.pending;
-    show(Card {
+    Card {
         channels: [a, b, c, d],
         counts: counts,
         active: active,
         pending: pending,
-    })
+    }
 }
 
 // Every channel's countdown is set anew for a level.
@@ -263,14 +324,23 @@ fn no_channel() -> Channel
             table: 0,
             scale: 0,
             offset: 0,
+            tone: Tone {
+                mode: 0,
+                frequency: 0,
+                phase: 0,
+            },
         },
         shown: Shown {
-            output: 0,
+            amplitude: 0,
             place: Place {
                 segment: 0,
                 left: Samples(0),
             },
+        },
+        signal: Signal {
+            output: 0,
             overflow: 0,
+            counter: 0,
         },
     }
 }

@@ -9,13 +9,13 @@ use Rattle.card.proofs.run.Statement.{statement}
 use Rattle.card.proofs.run.Tie as tie
 
 abbrev Inv-loop : tie.InvT-loop
-Inv-loop settings tables₀ n k₀ i₀ tables k i = (i ≤ n) × (ticks (n - i) (state k settings tables) ≡ ticks n (state k₀ settings tables₀))
+Inv-loop settings tables₀ waves n k₀ i₀ tables k i = (i ≤ n) × (ticks waves (n - i) (state k settings tables) ≡ ticks waves n (state k₀ settings tables₀))
 
 abbrev μ-loop : tie.MeasureT-loop
-μ-loop settings tables₀ n k₀ i₀ tables k i = n - i
+μ-loop settings tables₀ waves n k₀ i₀ tables k i = n - i
 
 loop-holds : tie.Need-loop-holds Inv-loop μ-loop
-loop-holds c = let a = c .args in (search needs, none-done _ (state (a .card) (a .settings .now) (a .tables .now)))
+loop-holds c = let a = c .args in (search needs, none-done _ _ (state (a .card) (a .settings .now) (a .tables .now)))
 
 advance-requires : tie.Need-advance-requires Inv-loop μ-loop
 advance-requires c κs = search needs
@@ -31,15 +31,16 @@ unfolding advanced
 loop-again c =
     let t = c .before .before .before .loop in
     let s = c .before .before .before .before .args .settings .now in
+    let v = c .before .before .before .before .args .waves .now in
     let st : State = state (t .k) s (t .tables) in
-    let e : state (c .advance .result) s (c .advance .last .1 .0) ≡ advanced st = same-state (advanced st) (c .advance .ensures .0) (c .advance .ensures .1) refl in
-    (search needs, ap (ticks _) e ∙ sym (one-more _ (t .i) st (c .before .before .loop-test .taken)) ∙ t .inv .1)
+    let e : state (c .advance .result) s (c .advance .last .1 .0) ≡ advanced v st = same-state (advanced v st) (c .advance .ensures .0) (c .advance .ensures .1) refl in
+    (search needs, ap (ticks v _) e ∙ sym (one-more v _ (t .i) st (c .before .before .loop-test .taken)) ∙ t .inv .1)
 
 returns : tie.Need-returns Inv-loop μ-loop
 returns c =
     let t = c .before .loop in
     let a = c .before .before .args in
-    let e : state (t .k) (a .settings .now) (t .tables) ≡ ticks (a .n) (state (a .card) (a .settings .now) (a .tables .now)) = all-done _ _ _ (t .inv .0) (c .loop-test .left) ∙ t .inv .1 in
+    let e : state (t .k) (a .settings .now) (t .tables) ≡ ticks (a .waves .now) (a .n) (state (a .card) (a .settings .now) (a .tables .now)) = all-done _ _ _ _ (t .inv .0) (c .loop-test .left) ∙ t .inv .1 in
     (ap (λ (x : State). x .card) e, ap (λ (x : State). x .tables) e)
 
 pub run-spec : {M : Type 1} → statement M

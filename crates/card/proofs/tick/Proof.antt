@@ -19,7 +19,7 @@ unfolding advanced
 returns c =
     let a = c .before .before .before .before .args in
     let st : State = state (a .card) (a .settings .now) (a .tables .now) in
-    let e : state (c .before .before .advance .result) (a .settings .now) (c .before .before .advance .last .1 .0) ≡ advanced st = same-state (advanced st) (c .before .before .advance .ensures .0) (c .before .before .advance .ensures .1) refl in
+    let e : state (c .before .before .advance .result) (a .settings .now) (c .before .before .advance .last .1 .0) ≡ advanced (a .waves .now) st = same-state (advanced (a .waves .now) st) (c .before .before .advance .ensures .0) (c .before .before .advance .ensures .1) refl in
     (c .receive .ensures .0 ∙ ap (λ (x : State). eventOf x (a .event) .card) e, c .receive .ensures .1 ∙ ap (λ (x : State). eventOf x (a .event) .tables) e)
 
 pub tick-spec : {M : Type 1} → statement M
