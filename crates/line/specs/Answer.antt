@@ -27,7 +27,7 @@ readText f = headOf 0x82 (numberOf (f .answer)) (processedOf (f .answer)) ++ hex
 
 -- 'four outputs', of channels 0 to 3
 abbrev pub outputsOf : Card → List ℕ
-outputsOf k = channelOf k 0 .shown .output ∷ channelOf k 1 .shown .output ∷ channelOf k 2 .shown .output ∷ channelOf k 3 .shown .output ∷ []
+outputsOf k = channelOf k 0 .signal .output ∷ channelOf k 1 .signal .output ∷ channelOf k 2 .signal .output ∷ channelOf k 3 .signal .output ∷ []
 
 -- the name, and the four outputs
 unfoldable pub outputsText : ℕ → Card → List ℕ
@@ -49,17 +49,17 @@ wrote o = step (o .state) (headOf 0x81 (numberOf (o .answer)) (processedOf (o .a
 abbrev pub ticked : ℕ → State → Step
 ticked name st = step st (outputsText name (st .card))
 
--- 'write', 'read', 'N ticks, no event', 'one tick'; any other line 'answers FF', and nothing changes
-abbrev pub onFrame : State → List ℕ → Frame → Step
-onFrame st s (Write start count) = wrote (writeOf st start count (wordsOf count s))
-onFrame st s (Read start count) = step st (readText (readOf (st .settings) (st .card) start count (replicate 64 0)))
-onFrame st s (Ticks n) = ticked 0x83 (ticks n st)
-onFrame st s (Event e) = ticked 0x84 (tickWith st e)
-onFrame st s Bad = step st (hex2 0xFF)
+-- 'write', 'read', 'N ticks, no event', 'one tick', with the wave tables w; any other line 'answers FF', and nothing changes
+abbrev pub onFrame : List ℕ → State → List ℕ → Frame → Step
+onFrame w st s (Write start count) = wrote (writeOf st start count (wordsOf count s))
+onFrame w st s (Read start count) = step st (readText (readOf (st .settings) (st .card) start count (replicate 64 0)))
+onFrame w st s (Ticks n) = ticked 0x83 (ticks w n st)
+onFrame w st s (Event e) = ticked 0x84 (tickWith w st e)
+onFrame w st s Bad = step st (hex2 0xFF)
 
 -- what a line does
-unfoldable pub stepOf : State → List ℕ → Step
-stepOf st s = onFrame st s (frameOf s)
+unfoldable pub stepOf : List ℕ → State → List ℕ → Step
+stepOf w st s = onFrame w st s (frameOf s)
 
 -- ---- what the functions that answer show
 

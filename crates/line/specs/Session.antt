@@ -1,4 +1,5 @@
--- The whole session; the same byte by byte; and chunk by chunk, as the program takes its input.
+-- The whole session; the same byte by byte; and chunk by chunk, as the program takes its input. The wave tables w, which no line changes, stand
+-- beside it.
 use mathlib.Core.Path.{_≡_}
 use mathlib.Core.Bool.{cond}
 use mathlib.Core.List.{List, [], _∷_, _++_}
@@ -9,7 +10,7 @@ use lib.Seq.{sets}
 use Rattle.word.specs.Lent.{Lent, lent, left}
 use Rattle.card.specs.declared.Card.{Card}
 use Rattle.card.specs.Card.{State, state}
-use Rattle.card.specs.Reset.{resetOf}
+use Rattle.card.specs.Reset.{wavesReset, resetOf}
 use Rattle.line.specs.declared.Answered.{Answered}
 use Rattle.line.specs.declared.Stream.{Stream}
 use Rattle.line.specs.Answer.{stepOf}
@@ -27,13 +28,13 @@ abbrev pub linesOf : List ℕ → List (List ℕ)
 linesOf input = linesFrom [] input
 
 -- the lines in order, on one card: 'each answer ends with LF'
-unfoldable pub answersOf : State → List (List ℕ) → List ℕ
-answersOf st [] = []
-answersOf st (l ∷ ls) = (stepOf st l .text ++ 10 ∷ []) ++ answersOf (stepOf st l .state) ls
+unfoldable pub answersOf : List ℕ → State → List (List ℕ) → List ℕ
+answersOf w st [] = []
+answersOf w st (l ∷ ls) = (stepOf w st l .text ++ 10 ∷ []) ++ answersOf w (stepOf w st l .state) ls
 
 -- 'from standard input on a reset card', whatever the lent words were before the reset
-unfoldable pub session : List ℕ → List ℕ → List ℕ → List ℕ
-session settings tables input = answersOf (resetOf settings tables) (linesOf input)
+unfoldable pub session : List ℕ → List ℕ → List ℕ → List ℕ → List ℕ
+session settings tables waves input = answersOf (wavesReset waves) (resetOf settings tables) (linesOf input)
 
 -- ---- byte by byte
 
@@ -72,34 +73,34 @@ abbrev pub found : Card → Lent → Lent → Lent → ℕ → Flow
 found k settings tables line held = opened k (lent settings) (lent tables) (lent line) held
 
 -- a line ends: it is answered
-unfoldable pub ended : Flow → Flow
-ended t =
-    flow (stepOf (t .state) (take (t .held) (t .line)) .state)
+unfoldable pub ended : List ℕ → Flow → Flow
+ended w t =
+    flow (stepOf w (t .state) (take (t .held) (t .line)) .state)
     (t .line)
     0
-    (t .text ++ (stepOf (t .state) (take (t .held) (t .line)) .text ++ 10 ∷ []))
+    (t .text ++ (stepOf w (t .state) (take (t .held) (t .line)) .text ++ 10 ∷ []))
 
 -- a line goes on: the byte is kept, up to 263 of them
 unfoldable pub kept : Flow → ℕ → Flow
 kept t b = cond (ltb (t .held) most) (flow (t .state) (set (t .line) (t .held) b) (t .held + 1) (t .text)) t
 
 -- one byte: LF ends the line
-unfoldable pub byteOf : Flow → ℕ → Flow
-byteOf t b = cond (eqb b 10) (ended t) (kept t b)
+unfoldable pub byteOf : List ℕ → Flow → ℕ → Flow
+byteOf w t b = cond (eqb b 10) (ended w t) (kept t b)
 
 -- bytes one after the other
-unfoldable pub feedOf : Flow → List ℕ → Flow
-feedOf t [] = t
-feedOf t (b ∷ s) = feedOf (byteOf t b) s
+unfoldable pub feedOf : List ℕ → Flow → List ℕ → Flow
+feedOf w t [] = t
+feedOf w t (b ∷ s) = feedOf w (byteOf w t b) s
 
 -- how many bytes are taken: one after the other as long as there is room for one more answer
-unfoldable pub takenOf : ℕ → Flow → List ℕ → ℕ
-takenOf room t [] = 0
-takenOf room t (b ∷ s) = cond (leb (length (t .text) + longest) room) (suc (takenOf room (byteOf t b) s)) 0
+unfoldable pub takenOf : List ℕ → ℕ → Flow → List ℕ → ℕ
+takenOf w room t [] = 0
+takenOf w room t (b ∷ s) = cond (leb (length (t .text) + longest) room) (suc (takenOf w room (byteOf w t b) s)) 0
 
 -- the input ends: a line that has begun is answered, if there is room for it
-unfoldable pub finishOf : ℕ → Flow → Flow
-finishOf room t = cond (eqb (t .held) 0) t (cond (leb longest room) (ended t) t)
+unfoldable pub finishOf : List ℕ → ℕ → Flow → Flow
+finishOf w room t = cond (eqb (t .held) 0) t (cond (leb longest room) (ended w t) t)
 
 -- ---- what the functions that take bytes show
 
@@ -117,27 +118,27 @@ abbrev pub streamOf : Card → ℕ → ℕ → ℕ → Stream
 streamOf k held end taken = record { card = k; held = held; end = end; taken = taken }
 
 -- a chunk: what is taken of it is fed, and its answers stand at the front of the buffer
-pub record Fed (t : Flow) (chunk before after settings tables line : List ℕ) (r : Stream) : Type 0 where
-  pub took : r .taken ≡ takenOf (length before) t chunk
-  pub feeds : Feeds (feedOf t (take (r .taken) chunk)) 0 before after settings tables line (r .card) (r .held) (r .end)
+pub record Fed (w : List ℕ) (t : Flow) (chunk before after settings tables line : List ℕ) (r : Stream) : Type 0 where
+  pub took : r .taken ≡ takenOf w (length before) t chunk
+  pub feeds : Feeds (feedOf w t (take (r .taken) chunk)) 0 before after settings tables line (r .card) (r .held) (r .end)
   pub fits : r .end ≤ length before
 
 -- the end of the input
-pub record Finished (t : Flow) (before after settings tables line : List ℕ) (r : Stream) : Type 0 where
+pub record Finished (w : List ℕ) (t : Flow) (before after settings tables line : List ℕ) (r : Stream) : Type 0 where
   pub took : r .taken ≡ 0
-  pub feeds : Feeds (finishOf (length before) t) 0 before after settings tables line (r .card) (r .held) (r .end)
+  pub feeds : Feeds (finishOf w (length before) t) 0 before after settings tables line (r .card) (r .held) (r .end)
   pub fits : r .end ≤ length before
 
 -- the same of a call: the buffer as it is lent and left, and the memory left
-abbrev pub Takes : Flow → Lent → Lent → Lent → Lent → Lent → Stream → Type 0
-Takes t chunk out settings tables line r = Fed t (lent chunk) (lent out) (left out) (left settings) (left tables) (left line) r
+abbrev pub Takes : List ℕ → Flow → Lent → Lent → Lent → Lent → Lent → Stream → Type 0
+Takes w t chunk out settings tables line r = Fed w t (lent chunk) (lent out) (left out) (left settings) (left tables) (left line) r
 
-abbrev pub Finishes : Flow → Lent → Lent → Lent → Lent → Stream → Type 0
-Finishes t out settings tables line r = Finished t (lent out) (left out) (left settings) (left tables) (lent line) r
+abbrev pub Finishes : List ℕ → Flow → Lent → Lent → Lent → Lent → Stream → Type 0
+Finishes w t out settings tables line r = Finished w t (lent out) (left out) (left settings) (left tables) (lent line) r
 
 -- a line that ends at a call
-abbrev pub Ends : Flow → ℕ → Lent → Lent → Lent → Lent → Answered → Type 0
-Ends t at out settings tables line r = Feeds (ended t) at (lent out) (left out) (left settings) (left tables) (lent line) (r .card) 0 (r .end)
+abbrev pub Ends : List ℕ → Flow → ℕ → Lent → Lent → Lent → Lent → Answered → Type 0
+Ends w t at out settings tables line r = Feeds (ended w t) at (lent out) (left out) (left settings) (left tables) (lent line) (r .card) 0 (r .end)
 
 -- keeping a byte: the buffer before and after, and how many bytes it holds
 pub record Keeps (before : List ℕ) (held b : ℕ) (after : List ℕ) (r : ℕ) : Type 0 where
@@ -148,14 +149,15 @@ pub record Keeps (before : List ℕ) (held b : ℕ) (after : List ℕ) (r : ℕ)
 -- ---- chunk by chunk, for any way in which the input comes; the text is all that has been written
 
 -- a chunk fed again and again, at most n times: each call writes its answers, and what it did not take is fed again
-unfoldable pub serveOf : ℕ → ℕ → Flow → List ℕ → Flow
-serveOf zero room t s = t
-serveOf (suc n) room t s = serveOf n room (after (t .text) (feedOf (bare t) (take (takenOf room (bare t) s) s))) (drop (takenOf room (bare t) s) s)
+unfoldable pub serveOf : List ℕ → ℕ → ℕ → Flow → List ℕ → Flow
+serveOf w zero room t s = t
+serveOf w (suc n) room t s =
+    serveOf w n room (after (t .text) (feedOf w (bare t) (take (takenOf w room (bare t) s) s))) (drop (takenOf w room (bare t) s) s)
 
 -- each chunk as many times as it has bytes, then the end of the input
-unfoldable pub writtenOf : ℕ → Flow → List (List ℕ) → List ℕ
-writtenOf room t [] = t .text ++ finishOf room (bare t) .text
-writtenOf room t (c ∷ cs) = writtenOf room (serveOf (length c) room t c) cs
+unfoldable pub writtenOf : List ℕ → ℕ → Flow → List (List ℕ) → List ℕ
+writtenOf w room t [] = t .text ++ finishOf w room (bare t) .text
+writtenOf w room t (c ∷ cs) = writtenOf w room (serveOf w (length c) room t c) cs
 
 -- the whole input
 unfoldable pub joined : List (List ℕ) → List ℕ

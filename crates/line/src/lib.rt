@@ -8,10 +8,10 @@ ghost use lib.Seq.{sets};
 ghost use Rattle.word.specs.Lent.{lent, left};
 ghost use Rattle.digits.specs.Digits.{hex2};
 ghost use Rattle.card.specs.Card.{before, LeavesWhole, channelOf};
-ghost use Rattle.card.specs.Reset.{resetOf};
-ghost use Rattle.transfer.specs.Transfer.{readOf};
-ghost use Rattle.line.specs.Frame.{frameOf, writeFrame, readFrame, ticksFrame, eventFrame};
-ghost use Rattle.line.specs.Answer.{headOf, readText, outputsOf, outputsText, onFrame, stepOf, Puts, Gives};
+ghost use Rattle.card.specs.Reset.{wavesReset, resetOf};
+ghost use Rattle.transfer.specs.Transfer.{writeOf, readOf};
+ghost use Rattle.line.specs.Frame.{wordsOf, frameOf, writeFrame, readFrame, ticksFrame, eventFrame};
+ghost use Rattle.line.specs.Answer.{headOf, wrote, readText, outputsOf, outputsText, onFrame, stepOf, Puts, Gives};
 ghost use Rattle.line.specs.Session.{streamOf, found, flow, Takes, Finishes, Ends, Keeps};
 
 // What a line says.
@@ -39,23 +39,28 @@ pub struct Stream {
 }
 
 // The reset card on which a session starts.
-pub fn start(settings: &mut [u16; 16960], tables: &mut [u16; 512]) -> Card
-    ensures { λ r. ⌜ LeavesWhole (resetOf (lent settings) (lent tables)) r settings tables ⌝ }
+pub fn start(
+    settings: &mut [u16; 16960],
+    tables: &mut [u16; 512],
+    waves: &mut [u16; 4096],
+) -> Card
+    ensures { λ r. ⌜ LeavesWhole (resetOf (lent settings) (lent tables)) r settings tables × (left waves ≡ wavesReset (lent waves)) ⌝ }
 {
-    card::reset(settings, tables)
+    card::reset(settings, tables, waves)
 }
 
 // Bytes of a chunk, one after the other, as long as `out` has room for one more answer.
 pub fn feed(
     settings: &mut [u16; 16960],
     tables: &mut [u16; 512],
+    waves: &[u16; 4096],
     line: &mut [u8; 263],
     out: &mut [u8],
     card: Card,
     held: usize,
     chunk: &[u8],
 ) -> Stream
-    ensures { λ r. ⌜ Takes (found card settings tables line held) chunk out settings tables line r ⌝ }
+    ensures { λ r. ⌜ Takes (lent waves) (found card settings tables line held) chunk out settings tables line r ⌝ }
 {
     let mut k = card;
     let mut h = word::least(held, 263);
@@ -68,7 +73,7 @@ pub fn feed(
         let b = chunk[i];
         i = i + 1;
         if b == 10 {
-            let a = end_line(settings, tables, line, out, k, h, end);
+            let a = end_line(settings, tables, waves, line, out, k, h, end);
             k = a.card;
             h = 0;
             end = a.end;
@@ -83,12 +88,13 @@ pub fn feed(
 pub fn finish(
     settings: &mut [u16; 16960],
     tables: &mut [u16; 512],
+    waves: &[u16; 4096],
     line: &[u8; 263],
     out: &mut [u8],
     card: Card,
     held: usize,
 ) -> Stream
-    ensures { λ r. ⌜ Finishes (found card settings tables line held) out settings tables line r ⌝ }
+    ensures { λ r. ⌜ Finishes (lent waves) (found card settings tables line held) out settings tables line r ⌝ }
 {
     let h = word::least(held, 263);
     if h == 0 {
@@ -97,7 +103,7 @@ pub fn finish(
     if out.len() < 265 {
         return reached(card, h, 0, 0);
     }
-    let a = end_line(settings, tables, line, out, card, h, 0);
+    let a = end_line(settings, tables, waves, line, out, card, h, 0);
     reached(a.card, 0, a.end, 0)
 }
 
@@ -105,13 +111,14 @@ pub fn finish(
 pub fn answer_line(
     settings: &mut [u16; 16960],
     tables: &mut [u16; 512],
+    waves: &[u16; 4096],
     card: Card,
     line: &[u8],
     out: &mut [u8],
 ) -> Answered
-    ensures { λ r. ⌜ Gives (stepOf (before card settings tables) (lent line)) 0 out settings tables r ⌝ }
+    ensures { λ r. ⌜ Gives (stepOf (lent waves) (before card settings tables) (lent line)) 0 out settings tables r ⌝ }
 {
-    answer(settings, tables, card, line, out, 0)
+    answer(settings, tables, waves, card, line, out, 0)
 }
 
 // The head of a transfer's answer from place `at` on: its name, the number, the words processed.
@@ -160,6 +167,7 @@ fn reached(card: Card, held: usize, end: usize, taken: usize) -> Stream
 fn end_line(
     settings: &mut [u16; 16960],
     tables: &mut [u16; 512],
+    waves: &[u16; 4096],
     line: &[u8],
     out: &mut [u8],
     card: Card,
@@ -167,11 +175,11 @@ fn end_line(
     at: usize,
 ) -> Answered
     requires { ⌜ at < 2 ^ 63 ⌝ }
-    ensures { λ r. ⌜ Ends (flow (before card settings tables) (lent line) held []) at out settings tables line r ⌝ }
+    ensures { λ r. ⌜ Ends (lent waves) (flow (before card settings tables) (lent line) held []) at out settings tables line r ⌝ }
     ensures { λ r. ⌜ r .end ≤ at + 265 ⌝ }
 {
     let n = word::least(held, line.len());
-    let a = answer(settings, tables, card, &line[..n], out, at);
+    let a = answer(settings, tables, waves, card, &line[..n], out, at);
     let end = a.end;
     digits::put(out, end, 10);
     let k = a.card;
@@ -200,13 +208,14 @@ fn keep(line: &mut [u8; 263], held: usize, b: u8) -> usize
 fn answer(
     settings: &mut [u16; 16960],
     tables: &mut [u16; 512],
+    waves: &[u16; 4096],
     card: Card,
     line: &[u8],
     out: &mut [u8],
     at: usize,
 ) -> Answered
     requires { ⌜ at < 2 ^ 63 ⌝ }
-    ensures { λ r. ⌜ Gives (stepOf (before card settings tables) (lent line)) at out settings tables r ⌝ }
+    ensures { λ r. ⌜ Gives (stepOf (lent waves) (before card settings tables) (lent line)) at out settings tables r ⌝ }
 {
     match parse(line) {
         Frame::Write { start, count } => answer_write(
@@ -226,8 +235,8 @@ fn answer(
                 end: end,
             }
         }
-        Frame::Ticks(n) => answer_ticks(settings, tables, card, line, n, out, at),
-        Frame::Event(e) => answer_event(settings, tables, card, line, e, out, at),
+        Frame::Ticks(n) => answer_ticks(settings, tables, waves, card, line, n, out, at),
+        Frame::Event(e) => answer_event(settings, tables, waves, card, line, e, out, at),
         Frame::Bad => answer_bad(card, out, at),
     }
 }
@@ -244,7 +253,7 @@ fn answer_write(
     at: usize,
 ) -> Answered
     requires { ⌜ (at < 2 ^ 63) × (count ≤ 64) ⌝ }
-    ensures { λ r. ⌜ Gives (onFrame (before card settings tables) (lent line) (Frame.Write start count)) at out settings tables r ⌝ }
+    ensures { λ r. ⌜ Gives (wrote (writeOf (before card settings tables) start count (wordsOf count (lent line)))) at out settings tables r ⌝ }
 {
     let mut buffer = [0u16; 64];
     digits::words(line, 6, count as u16, &mut buffer);
@@ -288,6 +297,7 @@ fn answer_read(
 fn answer_ticks(
     settings: &[u16; 16960],
     tables: &mut [u16; 512],
+    waves: &[u16; 4096],
     card: Card,
     line: &[u8],
     n: u16,
@@ -295,9 +305,9 @@ fn answer_ticks(
     at: usize,
 ) -> Answered
     requires { ⌜ at < 2 ^ 63 ⌝ }
-    ensures { λ r. ⌜ Gives (onFrame (before card settings tables) (lent line) (Frame.Ticks n)) at out settings tables r ⌝ }
+    ensures { λ r. ⌜ Gives (onFrame (lent waves) (before card settings tables) (lent line) (Frame.Ticks n)) at out settings tables r ⌝ }
 {
-    let k = card::run(settings, tables, card, n as u32);
+    let k = card::run(settings, tables, waves, card, n as u32);
     let end = put_outputs(k, 0x83, out, at);
     Answered { card: k, end: end }
 }
@@ -306,6 +316,7 @@ fn answer_ticks(
 fn answer_event(
     settings: &[u16; 16960],
     tables: &mut [u16; 512],
+    waves: &[u16; 4096],
     card: Card,
     line: &[u8],
     e: u16,
@@ -313,9 +324,9 @@ fn answer_event(
     at: usize,
 ) -> Answered
     requires { ⌜ at < 2 ^ 63 ⌝ }
-    ensures { λ r. ⌜ Gives (onFrame (before card settings tables) (lent line) (Frame.Event e)) at out settings tables r ⌝ }
+    ensures { λ r. ⌜ Gives (onFrame (lent waves) (before card settings tables) (lent line) (Frame.Event e)) at out settings tables r ⌝ }
 {
-    let k = card::tick(settings, tables, card, e);
+    let k = card::tick(settings, tables, waves, card, e);
     let end = put_outputs(k, 0x84, out, at);
     Answered { card: k, end: end }
 }
@@ -357,10 +368,10 @@ fn outputs(card: Card) -> [u16; 4]
 
 // One channel's output.
 fn output(card: Card, c: usize) -> u16
-    ensures { λ r. ⌜ r ≡ channelOf card c .shown .output ⌝ }
+    ensures { λ r. ⌜ r ≡ channelOf card c .signal .output ⌝ }
 {
     let ch = card::channel_of(card, c);
-    ch.shown.output
+    ch.signal.output
 }
 
 // ---- frames

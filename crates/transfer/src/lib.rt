@@ -2,6 +2,7 @@
 use card::Card;
 use channel::Channel;
 use channel::Shown;
+use channel::Signal;
 use map::Access;
 use map::Field;
 use map::Found;
@@ -11,9 +12,9 @@ ghost use mathlib.Core.Path.{_≡_};
 ghost use Prim.Native.Nat.{_≤_};
 ghost use lib.ListN.{take, length};
 ghost use Rattle.word.specs.Lent.{lent, left};
-ghost use Rattle.channel.specs.Channel.{with};
+ghost use Rattle.channel.specs.Channel.{outputTo, overflowCleared};
 ghost use Rattle.card.specs.Card.{before, LeavesWhole};
-ghost use Rattle.transfer.specs.Word.{Fits, Steps, fixedAt, heldAt, runningAt, judgeOf, effectOf, outputTo, overflowCleared, performOf, writeWord, statusOf, readWord};
+ghost use Rattle.transfer.specs.Word.{Fits, Steps, fixedAt, heldAt, runningAt, judgeOf, effectOf, performOf, writeWord, statusOf, readWord};
 ghost use Rattle.transfer.specs.Transfer.{whyNumber, numberOf, processedOf, badCount, writable, readable, Wrote, writeWords, writeOf, Reads, readWords, readOf};
 
 // Why a word is refused.
@@ -333,7 +334,7 @@ fn held_elsewhere(settings: &[u16; 16960], level: usize, value: u16) -> bool
     }
 }
 
-// A ramp runs on the channel whose output this is.
+// A ramp runs or free-runs on the channel whose output this is.
 fn is_running(card: Card, register: Register) -> bool
     ensures { λ b. ⌜ b ≡ runningAt card register ⌝ }
 {
@@ -400,47 +401,47 @@ fn perform(
     }
 }
 
+// The output and the amplitude become v.
 fn output_to(ch: Channel, v: u16) -> Channel
     ensures { λ r. ⌜ r ≡ outputTo ch v ⌝ }
 {
-    let s = ch.shown;
-    let place = s.place;
-    with_shown(
-        ch,
-        Shown {
-            output: v,
+    let phase = ch.phase;
+    let loaded = ch.loaded;
+    let place = ch.shown.place;
+    let signal = ch.signal;
+    Channel {
+        phase: phase,
+        level: ch.level,
+        loaded: loaded,
+        shown: Shown {
+            amplitude: v,
             place: place,
-            overflow: s.overflow,
         },
-    )
+        signal: Signal {
+            output: v,
+            overflow: signal.overflow,
+            counter: signal.counter,
+        },
+    }
 }
 
 fn overflow_cleared(ch: Channel) -> Channel
     ensures { λ r. ⌜ r ≡ overflowCleared ch ⌝ }
 {
-    let s = ch.shown;
-    let place = s.place;
-    with_shown(
-        ch,
-        Shown {
-            output: s.output,
-            place: place,
-            overflow: 0,
-        },
-    )
-}
-
-// The channel with other words shown.
-fn with_shown(ch: Channel, s: Shown) -> Channel
-    ensures { λ r. ⌜ r ≡ with ch (ch .phase) s ⌝ }
-{
     let phase = ch.phase;
     let loaded = ch.loaded;
+    let shown = ch.shown;
+    let signal = ch.signal;
     Channel {
         phase: phase,
         level: ch.level,
         loaded: loaded,
-        shown: s,
+        shown: shown,
+        signal: Signal {
+            output: signal.output,
+            overflow: 0,
+            counter: signal.counter,
+        },
     }
 }
 
@@ -464,15 +465,15 @@ fn read_word(settings: &[u16; 16960], card: Card, address: u16) -> u16
 }
 
 fn output_of(ch: Channel) -> u16
-    ensures { λ r. ⌜ r ≡ ch .shown .output ⌝ }
+    ensures { λ r. ⌜ r ≡ ch .signal .output ⌝ }
 {
-    ch.shown.output
+    ch.signal.output
 }
 
 fn overflow_of(ch: Channel) -> u16
-    ensures { λ r. ⌜ r ≡ ch .shown .overflow ⌝ }
+    ensures { λ r. ⌜ r ≡ ch .signal .overflow ⌝ }
 {
-    ch.shown.overflow
+    ch.signal.overflow
 }
 
 // A channel's words that are only read.
