@@ -14,9 +14,9 @@ use Rattle.card.specs.Card.{State, onSome}
 use Rattle.card.specs.Active.{cause}
 use Rattle.card.specs.Tick.{advanced}
 use Rattle.card.specs.Reset.{resetOf}
-use Rattle.history.specs.History.{Act, Tick, Write, Read, Reset, act, acts, readBack, triggerBy, Quiet, ticksIn}
+use Rattle.history.specs.History.{Act, Tick, Write, Read, HandIn, Reset, act, acts, readBack, triggerBy, Quiet, ticksIn}
 use Rattle.history.specs.Triggers.{eventBy}
-use Rattle.history.specs.Story.{Happening, Load, Sample, Output, Clear, Fresh, inTick, atTrigger, happens}
+use Rattle.history.specs.Story.{Happening, Load, Sample, FreeSample, Output, Clear, Fresh, inTick, atTrigger, happens}
 use Rattle.history.specs.Countdowns.{justBefore}
 
 -- ---- loads
@@ -25,7 +25,8 @@ use Rattle.history.specs.Countdowns.{justBefore}
 abbrev pub loadAmong : List Happening → Bool
 loadAmong [] = false
 loadAmong (Load ld ∷ hs) = true
-loadAmong (Sample p u ∷ hs) = loadAmong hs
+loadAmong (Sample w f p u ∷ hs) = loadAmong hs
+loadAmong (FreeSample w ∷ hs) = loadAmong hs
 loadAmong (Output v ∷ hs) = loadAmong hs
 loadAmong (Clear ∷ hs) = loadAmong hs
 loadAmong (Fresh ∷ hs) = loadAmong hs
@@ -38,15 +39,16 @@ abbrev pub loadsIn : State → List Act → Bool
 loadsIn st [] = false
 loadsIn st (x ∷ xs) = loadsBy st x || loadsIn (act st x) xs
 
--- some channel loads by counting
-abbrev pub loadsByCounting : State → Bool
-loadsByCounting st = onSome (λ c. loadAmong (inTick st c))
+-- some channel loads by counting, in a tick with the wave tables w
+abbrev pub loadsByCounting : List ℕ → State → Bool
+loadsByCounting w st = onSome (λ c. loadAmong (inTick w st c))
 
 -- some channel loads in x before the trigger that x is
 abbrev pub loadsBefore : State → Act → Bool
-loadsBefore st (Tick event) = loadsByCounting st
+loadsBefore st (Tick waves event) = loadsByCounting waves st
 loadsBefore st (Write start count ws) = false
 loadsBefore st (Read start count ws) = false
+loadsBefore st (HandIn to ws) = false
 loadsBefore st Reset = false
 
 -- some channel loads at the trigger itself
@@ -71,9 +73,10 @@ atReset = cause 0 0xFE
 -- counts too: that trigger then takes the place in its turn
 abbrev pub activeAfter : Holder → Act → Bool → Cause → Cause
 activeAfter (Level l) x loaded old = cond loaded (cause l (eventBy x)) old
-activeAfter Nobody (Tick event) loaded old = old
+activeAfter Nobody (Tick waves event) loaded old = old
 activeAfter Nobody (Write start count ws) loaded old = old
 activeAfter Nobody (Read start count ws) loaded old = old
+activeAfter Nobody (HandIn to ws) loaded old = old
 activeAfter Nobody Reset loaded old = atReset
 
 -- the last accepted trigger after which some channel has loaded; `old` where there is none
@@ -122,10 +125,10 @@ pub record ShownOnTime : Type 0 where
 
 -- ---- what is loaded
 
--- After any history of a card that was reset, whatever a channel loads, by counting or at a trigger, is table, scale factor and offset for
--- the level that 0x4210 then shows; a channel that has yet to load may hold those of an older level
+-- After any history of a card that was reset, whatever a channel loads, by counting or at a trigger, is table, scale factor, offset and tone
+-- for the level that 0x4210 then shows; a channel that has yet to load may hold those of an older level
 pub record LoadNamed (st : State) : Type 0 where
-  pub counting : (c : ℕ) → c < 4 → loadAmong (inTick st c) ≡ true → inTick st c ≡ Load (loadedFor (st .settings) c (readBack (advanced st) 0x4210)) ∷ []
+  pub counting : (w : List ℕ) (c : ℕ) → c < 4 → loadAmong (inTick w st c) ≡ true → inTick w st c ≡ Load (loadedFor (st .settings) c (readBack (advanced w st) 0x4210)) ∷ []
   pub trigger : (x : Act) (c : ℕ) → c < 4 → loadAmong (atTrigger st x c) ≡ true
       → atTrigger st x c ≡ Load (loadedFor (st .settings) c (readBack (act st x) 0x4210)) ∷ []
 

@@ -8,7 +8,7 @@ use Rattle.slots.specs.declared.Holder.{Holder}
 use Rattle.slots.specs.declared.Holder.the-variants.{Level, Nobody}
 use Rattle.card.specs.Card.{State}
 use Rattle.card.specs.Reset.{resetOf}
-use Rattle.history.specs.History.{Act, Tick, Write, Read, Reset, act, acts, readBack, wordsDone, triggerBy}
+use Rattle.history.specs.History.{Act, Tick, Write, Read, HandIn, Reset, act, acts, readBack, wordsDone, triggerBy}
 
 -- one of the words done from address a on is done at address b
 abbrev pub doesAt : ℕ → ℕ → List ℕ → Bool
@@ -17,9 +17,10 @@ doesAt b a (v ∷ vs) = eqb a b || doesAt b (a + 1) vs
 
 -- 0x4220 to 0x423F: 'any, sets 0'; a reset clears them all
 abbrev pub clears : State → ℕ → Act → Bool
-clears st level (Tick event) = false
+clears st level (Tick waves event) = false
 clears st level (Write start count ws) = doesAt (0x4220 + level) start (wordsDone st start count ws)
 clears st level (Read start count ws) = false
+clears st level (HandIn to ws) = false
 clears st level Reset = true
 
 -- n triggers of a level before an act, which is a trigger, or clears the count, or neither

@@ -1,4 +1,4 @@
--- Demand 1 of transfers: 'A bad one gets its number from document 01, checked in the order given there. Words before the stopping word are
+-- Demand 1 of transfers and of wave tables: 'A bad one gets its number from document 01, checked in the order given there. Words before the stopping word are
 -- done with all their effects, and nothing else changes.'
 use mathlib.Core.Path.{_≡_}
 use mathlib.Core.Bool.{true}
@@ -12,6 +12,7 @@ use Rattle.history.specs.Numbers.{WriteAnswered, ReadAnswered}
 use Rattle.history.specs.Effects.{AllEffects}
 use Rattle.history.specs.Counted.{CountedIsDone}
 use Rattle.history.specs.Triggers.{Holds}
+use Rattle.history.specs.Waves.{WaveTables}
 
 -- 7: 'unless a slot of a different level holds it'; 0xFE is null
 pub record HeldElsewhere (s : List ℕ) (level event : ℕ) : Type 0 where
@@ -27,6 +28,8 @@ pub record Demand1 : Type 0 where
   -- what a word that is done does, and that every word counted is done
   pub effects : AllEffects
   pub counted : CountedIsDone
+  -- every wave table handed in
+  pub tables : WaveTables
   -- the case of 7, in the paper's words
   pub seven : (s : List ℕ) (level event : ℕ) → heldAt s (R.Slot level) event ≡ true → HeldElsewhere s level event
   pub seven-only : (s : List ℕ) (level event : ℕ) → HeldElsewhere s level event → heldAt s (R.Slot level) event ≡ true

@@ -1,6 +1,7 @@
 -- Demand 2: 'Every read-back, counter and output sample is what the V473 manual says, as document 01 sets it out. A setting written reads
 -- back the same until a write, an erase or a reset changes it.'
 use mathlib.Core.Path.{_≡_}
+use mathlib.Core.List.{List}
 use Prim.Native.Nat.{ℕ}
 use Rattle.card.specs.Card.{State}
 use Rattle.card.specs.Tick.{ticks}
@@ -11,11 +12,12 @@ use Rattle.history.specs.Counts.{CountsRight}
 use Rattle.history.specs.Triggers.{TriggerRule, ImageRight}
 use Rattle.history.specs.Story.{ChannelsRight, AtRest}
 use Rattle.history.specs.Countdowns.{CountdownsSet, OlderGoesOn}
+use Rattle.history.specs.Waves.{WavesRight}
 use Rattle.history.specs.Active.{ActiveRight, NeverShows, ShownOnTime, LoadsNamed}
 
 -- N ticks at once are N acts, so what holds of histories holds of them
 unfoldable pub TicksAre : Type 0
-TicksAre = (n : ℕ) (st : State) → ticks n st ≡ acts st (idle n)
+TicksAre = (waves : List ℕ) (n : ℕ) (st : State) → ticks waves n st ≡ acts st (idle waves n)
 
 pub record Demand2 : Type 0 where
   -- the settings, and which words those are
@@ -36,6 +38,8 @@ pub record Demand2 : Type 0 where
   -- its load the older ramp goes on
   pub channels : ChannelsRight
   pub rest : AtRest
+  -- the wave tables
+  pub waves : WavesRight
   pub older : OlderGoesOn
   -- N ticks, no event
   pub ticks : TicksAre

@@ -1,4 +1,4 @@
--- What a write in channel c's block may alter: that channel's output and overflow count, and the settings of the block.
+-- What a write in channel c's block may alter: that channel's output and amplitude, its overflow count, and the settings of the block.
 use mathlib.Core.Path.{_≡_}
 use mathlib.Core.List.{List}
 use Prim.Native.Nat.{ℕ, _+_, _≤_, _<_}
@@ -12,13 +12,14 @@ use Rattle.transfer.specs.Transfer.{writeOf}
 abbrev pub InBlock : ℕ → ℕ → Type 0
 InBlock c a = (base c ≤ a) × (a < base c + 0x1000)
 
--- y is x but for channel c, and of that channel the ramp, the pending level, what is loaded and the last place are as they were
+-- y is x but for channel c, and of that channel the ramp, the pending level, what is loaded, the last place and the counter are as they were
 pub record But (c : ℕ) (x y : State) : Type 0 where
   pub others : (j : ℕ) → (j ≡ c → ⊥) → channelOf (y .card) j ≡ channelOf (x .card) j
   pub phase : channelOf (y .card) c .phase ≡ channelOf (x .card) c .phase
   pub level : channelOf (y .card) c .level ≡ channelOf (x .card) c .level
   pub loaded : channelOf (y .card) c .loaded ≡ channelOf (x .card) c .loaded
   pub place : channelOf (y .card) c .shown .place ≡ channelOf (x .card) c .shown .place
+  pub counter : channelOf (y .card) c .signal .counter ≡ channelOf (x .card) c .signal .counter
   pub counts : y .card .counts ≡ x .card .counts
   pub active : y .card .active ≡ x .card .active
   pub pending : y .card .pending ≡ x .card .pending

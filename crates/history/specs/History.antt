@@ -1,4 +1,4 @@
--- A history of the card: ticks with their events, transfers and resets, one after the other.
+-- A history of the card: ticks with their events, transfers, wave tables handed in and resets, one after the other.
 use mathlib.Core.Path.{_≡_}
 use mathlib.Core.Bool.{Bool, true, false, cond}
 use mathlib.Core.List.{List, [], _∷_}
@@ -16,18 +16,21 @@ use Rattle.transfer.specs.Word.{effectOf, performOf, readWord}
 use Rattle.transfer.specs.Transfer.{processedOf, writeOf}
 
 pub data Act : Type 0 where
-  -- a tick with its event, 0xFE if there is none
-  Tick : ℕ → Act
+  -- a tick with the wave tables lent to it, and its event, 0xFE if there is none
+  Tick : List ℕ → ℕ → Act
   -- a transfer: start, count and words
   Write : ℕ → ℕ → List ℕ → Act
   Read : ℕ → ℕ → List ℕ → Act
+  -- a wave table for a channel: its words change no part of the state, only the wave tables beside it (`specs/Waves`)
+  HandIn : ℕ → List ℕ → Act
   Reset : Act
 
 abbrev pub act : State → Act → State
-act st (Tick event) = tickWith st event
+act st (Tick waves event) = tickWith waves st event
 act st (Write start count ws) = writeOf st start count ws .state
 -- a read 'has no other effect': `readOf` answers with words alone
 act st (Read start count ws) = st
+act st (HandIn to ws) = st
 act st Reset = resetOf (st .settings) (st .tables)
 
 abbrev pub acts : State → List Act → State
@@ -35,9 +38,9 @@ acts st [] = st
 acts st (x ∷ xs) = acts (act st x) xs
 
 -- N ticks, no event
-abbrev pub idle : ℕ → List Act
-idle zero = []
-idle (suc n) = Tick 0xFE ∷ idle n
+abbrev pub idle : List ℕ → ℕ → List Act
+idle waves zero = []
+idle waves (suc n) = Tick waves 0xFE ∷ idle waves n
 
 -- the word that a read gives at an address
 abbrev pub readBack : State → ℕ → ℕ
@@ -48,12 +51,13 @@ abbrev pub Each : (ℕ → Type 0) → List ℕ → Type 0
 Each Q [] = Unit
 Each Q (v ∷ vs) = Q v × Each Q vs
 
--- 'words have 16 bits': those of every write
+-- 'words have 16 bits': those of every write, and of every wave table handed in
 abbrev pub Words16 : List Act → Type 0
 Words16 [] = Unit
-Words16 (Tick event ∷ xs) = Words16 xs
+Words16 (Tick waves event ∷ xs) = Words16 xs
 Words16 (Write start count ws ∷ xs) = Each (λ v. v < 65536) ws × Words16 xs
 Words16 (Read start count ws ∷ xs) = Words16 xs
+Words16 (HandIn to ws ∷ xs) = Each (λ v. v < 65536) ws × Words16 xs
 Words16 (Reset ∷ xs) = Words16 xs
 
 -- ---- the words of a write
@@ -76,15 +80,17 @@ manualAmong a (v ∷ vs) = cond (eqb a 0x4202) (Level v) (manualAmong (a + 1) vs
 
 -- the level of the accepted trigger that an act is: 'an event .. is an accepted trigger of L; so is every word done at 0x4202'
 abbrev pub triggerBy : State → Act → Holder
-triggerBy st (Tick event) = acceptedOf (st .settings) event
+triggerBy st (Tick waves event) = acceptedOf (st .settings) event
 triggerBy st (Write start count ws) = manualAmong start (wordsDone st start count ws)
 triggerBy st (Read start count ws) = Nobody
+triggerBy st (HandIn to ws) = Nobody
 triggerBy st Reset = Nobody
 
 abbrev pub isReset : Act → Bool
-isReset (Tick event) = false
+isReset (Tick waves event) = false
 isReset (Write start count ws) = false
 isReset (Read start count ws) = false
+isReset (HandIn to ws) = false
 isReset Reset = true
 
 -- 'with no trigger accepted after it and no reset'
@@ -100,17 +106,30 @@ Quiet st (x ∷ xs) = Calm st x × Quiet (act st x) xs
 
 abbrev pub ticksIn : List Act → ℕ
 ticksIn [] = 0
-ticksIn (Tick event ∷ xs) = suc (ticksIn xs)
+ticksIn (Tick waves event ∷ xs) = suc (ticksIn xs)
 ticksIn (Write start count ws ∷ xs) = ticksIn xs
 ticksIn (Read start count ws ∷ xs) = ticksIn xs
+ticksIn (HandIn to ws ∷ xs) = ticksIn xs
 ticksIn (Reset ∷ xs) = ticksIn xs
 
 -- the acts before the n-th tick; none before the 0-th, which is the trigger
 abbrev pub until : ℕ → List Act → List Act
 until zero xs = []
 until (suc n) [] = []
-until (suc zero) (Tick event ∷ xs) = []
-until (suc (suc n)) (Tick event ∷ xs) = Tick event ∷ until (suc n) xs
+until (suc zero) (Tick waves event ∷ xs) = []
+until (suc (suc n)) (Tick waves event ∷ xs) = Tick waves event ∷ until (suc n) xs
 until (suc n) (Write start count ws ∷ xs) = Write start count ws ∷ until (suc n) xs
 until (suc n) (Read start count ws ∷ xs) = Read start count ws ∷ until (suc n) xs
+until (suc n) (HandIn to ws ∷ xs) = HandIn to ws ∷ until (suc n) xs
 until (suc n) (Reset ∷ xs) = Reset ∷ until (suc n) xs
+
+-- the wave tables of the n-th tick; z, those of the tick that follows the acts, where they have none
+abbrev pub wavesOn : List ℕ → ℕ → List Act → List ℕ
+wavesOn z zero xs = z
+wavesOn z (suc n) [] = z
+wavesOn z (suc zero) (Tick waves event ∷ xs) = waves
+wavesOn z (suc (suc n)) (Tick waves event ∷ xs) = wavesOn z (suc n) xs
+wavesOn z (suc n) (Write start count ws ∷ xs) = wavesOn z (suc n) xs
+wavesOn z (suc n) (Read start count ws ∷ xs) = wavesOn z (suc n) xs
+wavesOn z (suc n) (HandIn to ws ∷ xs) = wavesOn z (suc n) xs
+wavesOn z (suc n) (Reset ∷ xs) = wavesOn z (suc n) xs

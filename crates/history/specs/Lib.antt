@@ -5,6 +5,7 @@ pub mod Counted
 pub mod Frame
 pub mod Sound
 pub mod Triggers
+pub mod Waves
 pub mod Demand1
 pub mod Settings
 pub mod Counts

@@ -4,17 +4,22 @@ use mathlib.Core.Bool.{true}
 use mathlib.Core.List.{List}
 use Prim.Native.Nat.{ℕ, _+_, _≤_, _<_}
 use lib.ListN.{length}
+use Rattle.map.specs.Register.{isMode}
 use Rattle.map.specs.Map.{registerOf, acceptedAt}
 use Rattle.map.specs.Addresses.{tableAt, scaleAt, offsetAt}
 use Rattle.slots.specs.Slots.{OneLevel}
 use Rattle.channel.specs.declared.Way.{Way}
 use Rattle.channel.specs.declared.Shown.{Shown}
 use Rattle.channel.specs.declared.Ramp.{Ramp}
-use Rattle.channel.specs.declared.Ramp.the-variants.{Still, Going}
+use Rattle.channel.specs.declared.Ramp.the-variants.{Still, Going, Free}
 use Rattle.channel.specs.declared.Phase.{Phase}
-use Rattle.channel.specs.declared.Phase.the-variants.{Rest, Counting, Running}
+use Rattle.channel.specs.declared.Phase.the-variants.{Rest, Counting, Running, FreeRunning}
+use Rattle.channel.specs.declared.Signal.{Signal}
+use Rattle.channel.specs.declared.Tone.{Tone}
 use Rattle.channel.specs.declared.Channel.{Channel}
-use Rattle.channel.specs.Channel.{word}
+use Rattle.channel.specs.Ramp.{freeRuns}
+use Rattle.channel.specs.Channel.{word, rampOf}
+use Rattle.course.specs.Plain.{isFree}
 use Rattle.card.specs.declared.Cause.{Cause}
 use Rattle.card.specs.declared.Card.{Card}
 use Rattle.card.specs.Card.{State, channelOf, countOf}
@@ -54,11 +59,20 @@ pub record OnItsWay (r : Way) : Type 0 where
   pub soon : r .wait .0 ≤ r .period .0
   pub period : r .period .0 ≡ 10
 
+-- a free run: the end point is behind it, and a sample comes every 10 microseconds
+pub record RunsFree (r : Way) : Type 0 where
+  pub most : r .place .segment ≤ 63
+  pub ended : r .place .left .0 ≡ 0
+  pub wait : 1 ≤ r .wait .0
+  pub soon : r .wait .0 ≤ r .period .0
+  pub period : r .period .0 ≡ 10
+
 abbrev pub RampSound : Ramp → Type 0
 RampSound Still = Unit
 RampSound (Going r) = OnItsWay r
+RampSound (Free r) = RunsFree r
 
--- a countdown; from the load on, 10 microseconds before the start, no older ramp runs
+-- a countdown; from the load on, 10 microseconds before the start, no older ramp runs or free-runs
 pub record Countdown (n : ℕ) (older : Ramp) : Type 0 where
   pub some : 1 ≤ n
   pub small : n < 65536
@@ -69,12 +83,23 @@ abbrev pub PhaseSound : Phase → Type 0
 PhaseSound Rest = Unit
 PhaseSound (Counting n older) = Countdown (n .0) older
 PhaseSound (Running r) = OnItsWay r
+PhaseSound (FreeRunning r) = RunsFree r
 
 pub record ShownSound (s : Shown) : Type 0 where
-  pub output : s .output < 65536
+  pub amplitude : s .amplitude < 65536
   pub segment : s .place .segment ≤ 63
   pub left : s .place .left .0 < 65536
-  pub overflow : s .overflow < 65536
+
+pub record SignalSound (g : Signal) : Type 0 where
+  pub output : g .output < 65536
+  pub overflow : g .overflow < 65536
+  pub counter : g .counter < 65536
+
+-- A01 accepts 0, 1, 4 and 5
+pub record ToneSound (t : Tone) : Type 0 where
+  pub mode : isMode (t .mode) ≡ true
+  pub frequency : t .frequency < 65536
+  pub phase : t .phase < 65536
 
 pub record ChannelSound (ch : Channel) : Type 0 where
   pub phase : PhaseSound (ch .phase)
@@ -82,7 +107,11 @@ pub record ChannelSound (ch : Channel) : Type 0 where
   pub table : ch .loaded .table ≤ 15
   pub scale : ch .loaded .scale < 65536
   pub offset : ch .loaded .offset < 65536
+  pub tone : ToneSound (ch .loaded .tone)
+  -- only a ramp that was loaded with free run runs free
+  pub free : isFree (rampOf (ch .phase)) ≡ true → freeRuns (ch .loaded .tone .mode) ≡ true
   pub shown : ShownSound (ch .shown)
+  pub signal : SignalSound (ch .signal)
 
 -- ---- the card
 
@@ -107,7 +136,7 @@ pub record Sound (st : State) : Type 0 where
 -- any history keep it
 pub record Reachable : Type 0 where
   pub reset : (s l : List ℕ) → length s ≡ 16960 → length l ≡ 512 → Sound (resetOf s l)
-  pub tick : (st : State) (event : ℕ) → Sound st → Sound (tickWith st event)
-  pub ticks : (n : ℕ) (st : State) → Sound st → Sound (ticks n st)
+  pub tick : (w : List ℕ) (st : State) (event : ℕ) → Sound st → Sound (tickWith w st event)
+  pub ticks : (w : List ℕ) (n : ℕ) (st : State) → Sound st → Sound (ticks w n st)
   pub write : (st : State) (start count : ℕ) (ws : List ℕ) → Each (λ v. v < 65536) ws → Sound st → Sound (writeOf st start count ws .state)
   pub history : (st : State) (xs : List Act) → Words16 xs → Sound st → Sound (acts st xs)

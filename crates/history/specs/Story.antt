@@ -1,13 +1,14 @@
--- What a channel's words show after any history: its last load, its last sample, its output, and how many samples
+-- What a channel's words show after any history: its last load, its last sample, its amplitude and counter, its output, and how many samples
 -- overflowed since the last clearing.
 use mathlib.Core.Path.{_≡_}
-use mathlib.Core.Bool.{cond}
+use mathlib.Core.Bool.{Bool, true, false, _||_, cond}
 use mathlib.Core.List.{List, [], _∷_, _++_}
 use Prim.Native.Nat.{ℕ, _+_, _-_, _%_, _<_}
 use lib.Dec.{ltb, eqb}
 use lib.ListN.{length}
 use Rattle.sum.specs.declared.Sum.{Sum}
 use Rattle.sum.specs.declared.Sum.the-variants.{Word, Overflow}
+use Rattle.wave.specs.Sine.{sineOf}
 use Rattle.map.specs.Map.{base}
 use Rattle.map.specs.Addresses.{enableAt}
 use Rattle.slots.specs.declared.Holder.{Holder}
@@ -15,52 +16,57 @@ use Rattle.slots.specs.declared.Holder.the-variants.{Level, Nobody}
 use Rattle.channel.specs.declared.Place.{Place}
 use Rattle.channel.specs.declared.Loaded.{Loaded}
 use Rattle.channel.specs.declared.Ramp.{Ramp}
-use Rattle.channel.specs.declared.Ramp.the-variants.{Still, Going}
+use Rattle.channel.specs.declared.Ramp.the-variants.{Still, Going, Free}
 use Rattle.channel.specs.declared.Phase.{Phase}
-use Rattle.channel.specs.declared.Phase.the-variants.{Rest, Counting, Running}
+use Rattle.channel.specs.declared.Phase.the-variants.{Rest, Counting, Running, FreeRunning}
 use Rattle.channel.specs.declared.Channel.{Channel}
-use Rattle.channel.specs.Ramp.{place, enter, next, sampleAt}
-use Rattle.channel.specs.Channel.{word, firstOf, loadsAt, loadedFor, countdown}
+use Rattle.channel.specs.Ramp.{place, enter, next, sampleAt, hold, isSine}
+use Rattle.channel.specs.Signal.{counterNext, counterAt, overflows}
+use Rattle.channel.specs.Channel.{word, firstOf, loadsAt, loadedFor, countdown, noTone}
 use Rattle.card.specs.Card.{State, channelOf}
 use Rattle.card.specs.Reset.{resetOf}
-use Rattle.history.specs.History.{Act, Tick, Write, Read, Reset, act, acts, readBack, wordsDone, triggerBy, Words16}
+use Rattle.history.specs.History.{Act, Tick, Write, Read, HandIn, Reset, act, acts, readBack, wordsDone, triggerBy, Words16}
 
 -- ---- what can happen on a channel
 
 pub data Happening : Type 0 where
-  -- table number, scale factor and offset are loaded
+  -- table number, scale factor, offset, mode, frequency and phase are loaded
   Load : Loaded → Happening
-  -- a sample is given: its place, and its sum
-  Sample : Place → Sum → Happening
+  -- a ramp's sample is given: the wave tables then, whether it is sample 0, its place, and its sum
+  Sample : List ℕ → Bool → Place → Sum → Happening
+  -- a free run's sample is given, with the wave tables then
+  FreeSample : List ℕ → Happening
   -- a word is done at A04, or at A39
   Output : ℕ → Happening
   Clear : Happening
   -- a reset
   Fresh : Happening
 
--- ---- a tick: what happens on channel c, which holds ch, under the settings s and the loaded tables l
+-- ---- a tick with the wave tables w: what happens on channel c, which holds ch, under the settings s and the loaded tables l
 
-abbrev pub sample : List ℕ → ℕ → Channel → Place → List Happening
-sample l c ch p = Sample p (sampleAt l (firstOf c) (ch .loaded) p) ∷ []
+abbrev pub sample : List ℕ → Bool → List ℕ → ℕ → Channel → Place → List Happening
+sample w isFirst l c ch p = Sample w isFirst p (sampleAt l (firstOf c) (ch .loaded) p) ∷ []
 
--- 'every 10 ticks': a ramp gives its next sample when its wait is over
-abbrev pub byRamp : List ℕ → ℕ → Channel → Ramp → List Happening
-byRamp l c ch Still = []
-byRamp l c ch (Going r) = cond (ltb 1 (r .wait .0)) [] (sample l c ch (next l (firstOf c) (r .place)))
+-- 'every 10 ticks': a ramp, and a free run, gives its next sample when its wait is over
+abbrev pub byRamp : List ℕ → List ℕ → ℕ → Channel → Ramp → List Happening
+byRamp w l c ch Still = []
+byRamp w l c ch (Going r) = cond (ltb 1 (r .wait .0)) [] (sample w false l c ch (next l (firstOf c) (r .place)))
+byRamp w l c ch (Free r) = cond (ltb 1 (r .wait .0)) [] (FreeSample w ∷ [])
 
 -- 'at countdown 0 the ramp starts if A00 is 1'
-abbrev pub byStart : List ℕ → List ℕ → ℕ → Channel → List Happening
-byStart s l c ch = cond (eqb (word s (enableAt c)) 1) (sample l c ch (enter l (firstOf c) 0)) []
+abbrev pub byStart : List ℕ → List ℕ → List ℕ → ℕ → Channel → List Happening
+byStart w s l c ch = cond (eqb (word s (enableAt c)) 1) (sample w true l c ch (enter l (firstOf c) 0)) []
 
 -- 'a load reached by counting comes before that tick's sample, so the old ramp gives none then'
-abbrev pub inPhase : Phase → List ℕ → List ℕ → ℕ → Channel → List Happening
-inPhase Rest s l c ch = []
-inPhase (Counting n older) s l c ch =
-    cond (eqb (n .0 - 1) 0) (byStart s l c ch) (cond (loadsAt (n .0 - 1)) (Load (loadedFor s c (ch .level)) ∷ []) (byRamp l c ch older))
-inPhase (Running r) s l c ch = byRamp l c ch (Going r)
+abbrev pub inPhase : Phase → List ℕ → List ℕ → List ℕ → ℕ → Channel → List Happening
+inPhase Rest w s l c ch = []
+inPhase (Counting n older) w s l c ch =
+    cond (eqb (n .0 - 1) 0) (byStart w s l c ch) (cond (loadsAt (n .0 - 1)) (Load (loadedFor s c (ch .level)) ∷ []) (byRamp w l c ch older))
+inPhase (Running r) w s l c ch = byRamp w l c ch (Going r)
+inPhase (FreeRunning r) w s l c ch = byRamp w l c ch (Free r)
 
-abbrev pub byTick : List ℕ → List ℕ → ℕ → Channel → List Happening
-byTick s l c ch = inPhase (ch .phase) s l c ch
+abbrev pub byTick : List ℕ → List ℕ → List ℕ → ℕ → Channel → List Happening
+byTick w s l c ch = inPhase (ch .phase) w s l c ch
 
 -- ---- an act
 
@@ -78,17 +84,18 @@ byWords c a [] = []
 byWords c a (v ∷ vs) = byWord c a v ++ byWords c (a + 1) vs
 
 -- as a tick advances the channel, and at an act's trigger
-abbrev pub inTick : State → ℕ → List Happening
-inTick st c = byTick (st .settings) (st .tables) c (channelOf (st .card) c)
+abbrev pub inTick : List ℕ → State → ℕ → List Happening
+inTick w st c = byTick w (st .settings) (st .tables) c (channelOf (st .card) c)
 
 abbrev pub atTrigger : State → Act → ℕ → List Happening
 atTrigger st x c = byTrigger (triggerBy st x) (st .settings) c
 
 -- 'a tick first advances every channel, then takes its event'
 abbrev pub happens : ℕ → State → Act → List Happening
-happens c st (Tick event) = inTick st c ++ atTrigger st (Tick event) c
+happens c st (Tick waves event) = inTick waves st c ++ atTrigger st (Tick waves event) c
 happens c st (Write start count ws) = atTrigger st (Write start count ws) c ++ byWords c start (wordsDone st start count ws)
 happens c st (Read start count ws) = []
+happens c st (HandIn to ws) = []
 happens c st Reset = Fresh ∷ []
 
 -- the story of channel c in a history
@@ -101,28 +108,63 @@ story c st (x ∷ xs) = happens c st x ++ story c (act st x) xs
 pub record Told : Type 0 where
   pub loaded : Loaded
   pub place : Place
+  pub amplitude : ℕ
   pub output : ℕ
   pub overflowed : ℕ
+  pub counter : ℕ
 
--- after a reset: 'loaded scale factor 0x0100', 'all else 0'
+-- after a reset: 'loaded scale factor 0x0100', 'all else 0', 'the amplitude too'
 abbrev pub fresh : Told
-fresh = record { loaded = record { table = 0; scale = 0x0100; offset = 0 }; place = place 0 0; output = 0; overflowed = 0 }
+fresh =
+    record {
+      loaded = record { table = 0; scale = 0x0100; offset = 0; tone = noTone };
+      place = place 0 0;
+      amplitude = 0;
+      output = 0;
+      overflowed = 0;
+      counter = 0;
+    }
 
-abbrev pub tell : Told → Happening → Told
+-- 'A33 and A34 show the last sample's n and m'; 'the ramp's sample becomes an amplitude', 'an amplitude overflow keeps the previous amplitude'
+abbrev pub ramped : Place → Sum → Told → Told
+ramped p u x = record { loaded = x .loaded; place = p; amplitude = hold u (x .amplitude); output = x .output; overflowed = x .overflowed; counter = x .counter }
+
+-- the output becomes this sum's word, or where it does not fit 'is held and counted in A39, which grows by at most 1 a sample'; `over`: the
+-- amplitude has overflowed, which is counted too; the counter becomes n
+abbrev pub sounds : Sum → Bool → ℕ → Told → Told
+sounds y over n x =
+    record {
+      loaded = x .loaded;
+      place = x .place;
+      amplitude = x .amplitude;
+      output = hold y (x .output);
+      overflowed = cond (over || overflows y) (x .overflowed + 1) (x .overflowed);
+      counter = n;
+    }
+
+-- in sine mode the sum is the sine of the amplitude at the counter n
+abbrev pub sines : List ℕ → ℕ → Bool → ℕ → Told → Told
+sines w c over n x = sounds (sineOf w c n (x .amplitude)) over n x
+
+-- channel c's story
+abbrev pub tell : ℕ → Told → Happening → Told
 -- 'A33 and A34 become 0'
-tell x (Load ld) = record { loaded = ld; place = place 0 0; output = x .output; overflowed = x .overflowed }
--- 'A33 and A34 show the last sample's n and m'; 'outside −32768..32767 the output stays and A39 grows by 1'
-tell x (Sample p (Word v)) = record { loaded = x .loaded; place = p; output = v; overflowed = x .overflowed }
-tell x (Sample p Overflow) = record { loaded = x .loaded; place = p; output = x .output; overflowed = x .overflowed + 1 }
-tell x (Output v) = record { loaded = x .loaded; place = x .place; output = v; overflowed = x .overflowed }
-tell x Clear = record { loaded = x .loaded; place = x .place; output = x .output; overflowed = 0 }
-tell x Fresh = fresh
+tell c x (Load ld) = record { loaded = ld; place = place 0 0; amplitude = x .amplitude; output = x .output; overflowed = x .overflowed; counter = x .counter }
+tell c x (Sample w isFirst p u) =
+    cond (isSine (x .loaded .tone .mode))
+    (sines w c (overflows u) (counterAt isFirst (x .loaded .tone) (x .counter)) (ramped p u x))
+    (sounds u false (x .counter) (ramped p u x))
+-- 'under free run goes on .. A33 and A34 staying'
+tell c x (FreeSample w) = sines w c false (counterNext (x .loaded .tone) (x .counter)) x
+tell c x (Output v) = record { loaded = x .loaded; place = x .place; amplitude = v; output = v; overflowed = x .overflowed; counter = x .counter }
+tell c x Clear = record { loaded = x .loaded; place = x .place; amplitude = x .amplitude; output = x .output; overflowed = 0; counter = x .counter }
+tell c x Fresh = fresh
 
-abbrev pub told : Told → List Happening → Told
-told x [] = x
-told x (h ∷ hs) = told (tell x h) hs
+abbrev pub told : ℕ → Told → List Happening → Told
+told c x [] = x
+told c x (h ∷ hs) = told c (tell c x h) hs
 
--- the words of channel c read what is told
+-- the words of channel c read what is told, and it keeps the amplitude and the counter, which no address shows
 pub record Shows (c : ℕ) (st : State) (x : Told) : Type 0 where
   pub output : readBack st (base c + 0xA04) ≡ x .output
   pub table : readBack st (base c + 0xA30) ≡ x .loaded .table
@@ -132,12 +174,14 @@ pub record Shows (c : ℕ) (st : State) (x : Told) : Type 0 where
   pub left : readBack st (base c + 0xA34) ≡ x .place .left .0
   -- 'grows by 1 (65,535 goes round to 0)'
   pub overflow : readBack st (base c + 0xA39) ≡ x .overflowed % 65536
+  pub amplitude : channelOf (st .card) c .shown .amplitude ≡ x .amplitude
+  pub counter : channelOf (st .card) c .signal .counter ≡ x .counter
 
 -- after any history of a card that was reset; that it has 16,960 settings and 512 loaded words, of 16 bits each, is so by type
 unfoldable pub ChannelsRight : Type 0
 ChannelsRight =
     (s l : List ℕ) → length s ≡ 16960 → length l ≡ 512 → (xs : List Act) → Words16 xs → (c : ℕ) → c < 4
-    → Shows c (acts (resetOf s l) xs) (told fresh (story c (resetOf s l) xs))
+    → Shows c (acts (resetOf s l) xs) (told c fresh (story c (resetOf s l) xs))
 
 -- after a reset: 'no countdown, no ramp'
 unfoldable pub AtRest : Type 0

@@ -6,7 +6,7 @@ use lib.ListN.{length, getD}
 use Rattle.slots.specs.declared.Holder.the-variants.{Level}
 use Rattle.slots.specs.Slots.{slotOf, levelOf}
 use Rattle.card.specs.Card.{State}
-use Rattle.history.specs.History.{Act, Tick, Write, Read, Reset, readBack, wordsDone, triggerBy}
+use Rattle.history.specs.History.{Act, Tick, Write, Read, HandIn, Reset, readBack, wordsDone, triggerBy}
 use Rattle.history.specs.Sound.{Sound}
 
 -- ---- the rule
@@ -32,9 +32,10 @@ pub record ByHand (start : ℕ) (done : List ℕ) (level : ℕ) : Type 0 where
   pub word : getD done place 0 ≡ level
 
 abbrev pub Accepted : State → Act → ℕ → Type 0
-Accepted st (Tick event) level = ByClock st event level
+Accepted st (Tick waves event) level = ByClock st event level
 Accepted st (Write start count ws) level = ByHand start (wordsDone st start count ws) level
 Accepted st (Read start count ws) level = ⊥
+Accepted st (HandIn to ws) level = ⊥
 Accepted st Reset level = ⊥
 
 -- the triggers of a history are exactly those of the rule, whatever the channels are doing
@@ -44,9 +45,10 @@ pub record TriggerRule : Type 0 where
 
 -- 'the event (0xFE if manual)'
 abbrev pub eventBy : Act → ℕ
-eventBy (Tick event) = event
+eventBy (Tick waves event) = event
 eventBy (Write start count ws) = 0xFE
 eventBy (Read start count ws) = 0xFE
+eventBy (HandIn to ws) = 0xFE
 eventBy Reset = 0xFE
 
 -- ---- the event image
