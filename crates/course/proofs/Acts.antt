@@ -1,5 +1,5 @@
 -- What one act leaves as it was. A tick changes neither the level nor, but for a load, what is loaded; a tick at rest changes nothing;
--- what is no tick leaves phase, level, loaded words and the channel's table. Assumes nothing.
+-- what is no tick leaves phase, level, loaded words, counter and the channel's table. Assumes nothing.
 use mathlib.Core.Path.{_≡_, refl, ap, _∙_}
 use mathlib.Core.Bool.{Bool, true, false, cond}
 use mathlib.Core.List.{List, [], _∷_}
@@ -8,71 +8,82 @@ use native.Mathlib.Omega.{arith}
 use lib.Dec.{eqb}
 use lib.ListN.{length}
 use borrow.Author.Tests.{eqb-true, eq-eqb}
+use Rattle.word.specs.Copy.{copied}
 use Rattle.map.specs.Addresses.{enableAt}
 use Rattle.channel.specs.declared.Phase.{Phase}
-use Rattle.channel.specs.declared.Phase.the-variants.{Rest, Counting, Running}
+use Rattle.channel.specs.declared.Phase.the-variants.{Rest, Counting, Running, FreeRunning}
 use Rattle.channel.specs.declared.Ramp.{Ramp}
 use Rattle.channel.specs.declared.Shown.{Shown}
+use Rattle.channel.specs.declared.Gave.{Gave}
 use Rattle.channel.specs.declared.Channel.{Channel}
-use Rattle.channel.specs.Channel.{Side, side, word, with, firstOf, lead, loadsAt, runsOf, copied, load, start, countTo, tickAt, tickOf, triggered}
+use Rattle.channel.specs.Signal.{makeOf}
+use Rattle.channel.specs.Channel.{Side, Move, side, move, word, with, firstOf, lead, loadsAt, runsOf, load, start, countTo, moveAt, tickOf, triggered}
 use Rattle.course.specs.Points.{SameTable}
-use Rattle.course.specs.Course.{Act, Tick, Elsewhere, Output, Clear, elsewhere, written, act, run, ticksIn, until, heldOn}
+use Rattle.course.specs.Course.{Act, Tick, Elsewhere, Output, Clear, elsewhere, written, act, run, ticksIn, until, heldOn, wavesOn}
 use Rattle.course.proofs.Copies.{choose, copied-length, copied-in, copied-same, tick-length, tick-out, trigger-length, trigger-out}
 
 -- ---- a tick
 
 module _ (s l : List ℕ) (c : ℕ) (ch : Channel) where
-  pub tick-rest : ch .phase ≡ Rest → tickOf s l c ch ≡ side ch l
-  unfolding tickAt
-  tick-rest e = rw e
+  pub tick-rest : (w : List ℕ) → ch .phase ≡ Rest → tickOf s w l c ch ≡ side ch l
+  unfolding tickOf moveAt makeOf
+  tick-rest w e = rw e
 
-  abbrev SameLevel : Side → Type 0
+  abbrev SameLevel : Move → Type 0
   SameLevel x = x .channel .level ≡ ch .level
 
-  start-level : start s l c ch .level ≡ ch .level
+  start-level : SameLevel (start s l c ch)
   unfolding start
-  start-level = choose (λ (x : Channel). x .level ≡ ch .level) (eqb (word s (enableAt c)) 1) _ _ refl refl
+  start-level = choose SameLevel (eqb (word s (enableAt c)) 1) _ _ refl refl
 
   load-level : load s l c ch (ch .level) .channel .level ≡ ch .level
   unfolding load
   load-level = refl
 
-  tick-level-in : (f : Phase) → tickAt f s l c ch .channel .level ≡ ch .level
-  unfolding tickAt countTo
-  tick-level-in Rest = refl
-  tick-level-in (Counting n older) = choose SameLevel (eqb (n .0 - 1) 0) _ _ start-level (choose SameLevel (loadsAt (n .0 - 1)) _ _ load-level refl)
-  tick-level-in (Running w) = refl
+  move-level : (f : Phase) → SameLevel (moveAt f s l c ch)
+  unfolding moveAt countTo
+  move-level Rest = refl
+  move-level (Counting n older) = choose SameLevel (eqb (n .0 - 1) 0) _ _ start-level (choose SameLevel (loadsAt (n .0 - 1)) _ _ load-level refl)
+  move-level (Running w) = refl
+  move-level (FreeRunning w) = refl
 
-  pub tick-level : tickOf s l c ch .channel .level ≡ ch .level
-  tick-level = tick-level-in (ch .phase)
+  pub tick-level : (w : List ℕ) → tickOf s w l c ch .channel .level ≡ ch .level
+  unfolding tickOf
+  tick-level w = move-level (ch .phase)
 
   -- no load is reached
   pub record Kept (x : Side) : Type 0 where
     pub loaded : x .channel .loaded ≡ ch .loaded
     pub tables : x .tables ≡ l
 
-  start-kept : Kept (side (start s l c ch) l)
+  abbrev KeptIn : Move → Type 0
+  KeptIn x = Kept (side (x .channel) (x .tables))
+
+  start-kept : KeptIn (start s l c ch)
   unfolding start
-  start-kept = record { loaded = choose (λ (x : Channel). x .loaded ≡ ch .loaded) (eqb (word s (enableAt c)) 1) _ _ refl refl; tables = refl }
+  start-kept = choose KeptIn (eqb (word s (enableAt c)) 1) _ _ (record { loaded = refl; tables = refl }) (record { loaded = refl; tables = refl })
 
-  count-kept : (n : ℕ) (older : Ramp) → (n ≡ 11 → ⊥) → Kept (countTo (n - 1) older s l c ch)
+  count-kept : (n : ℕ) (older : Ramp) → (n ≡ 11 → ⊥) → KeptIn (countTo (n - 1) older s l c ch)
   unfolding countTo
-  count-kept n older h = go (eqb (n - 1) 0) (loadsAt (n - 1)) refl _ _ _
+  count-kept n older h = go (eqb (n - 1) 0) (loadsAt (n - 1)) refl _ _ _ _
     where
-      go : (a b : Bool) → loadsAt (n - 1) ≡ b → (x : Side) (p : Phase) (t : Shown) → Kept (cond a (side (start s l c ch) l) (cond b x (side (with ch p t) l)))
-      go true b e x p t = start-kept
-      go false true e x p t = absurd (h (omega (arith, eqb-true (n - 1) lead e)))
-      go false false e x p t = record { loaded = refl; tables = refl }
+      go : (a b : Bool) → loadsAt (n - 1) ≡ b → (x : Move) (p : Phase) (t : Shown) (g : Gave)
+          → KeptIn (cond a (start s l c ch) (cond b x (move (with ch p t) l g)))
+      go true b e x p t g = start-kept
+      go false true e x p t g = absurd (h (omega (arith, eqb-true (n - 1) lead e)))
+      go false false e x p t g = record { loaded = refl; tables = refl }
 
-  tick-kept-in : (f : Phase) → ((n : ℕ) (older : Ramp) → f ≡ Counting (record { 0 = n }) older → n ≡ 11 → ⊥) → Kept (tickAt f s l c ch)
-  unfolding tickAt
-  tick-kept-in Rest h = record { loaded = refl; tables = refl }
-  tick-kept-in (Counting n older) h = count-kept (n .0) older (h (n .0) older refl)
-  tick-kept-in (Running w) h = record { loaded = refl; tables = refl }
+  move-kept : (f : Phase) → ((n : ℕ) (older : Ramp) → f ≡ Counting (record { 0 = n }) older → n ≡ 11 → ⊥) → KeptIn (moveAt f s l c ch)
+  unfolding moveAt
+  move-kept Rest h = record { loaded = refl; tables = refl }
+  move-kept (Counting n older) h = count-kept (n .0) older (h (n .0) older refl)
+  move-kept (Running w) h = record { loaded = refl; tables = refl }
+  move-kept (FreeRunning w) h = record { loaded = refl; tables = refl }
 
   -- unless the countdown stands at 11, a tick changes neither what is loaded nor the tables
-  pub tick-kept : ((n : ℕ) (older : Ramp) → ch .phase ≡ Counting (record { 0 = n }) older → n ≡ 11 → ⊥) → Kept (tickOf s l c ch)
-  tick-kept h = tick-kept-in (ch .phase) h
+  pub tick-kept : (w : List ℕ) → ((n : ℕ) (older : Ramp) → ch .phase ≡ Counting (record { 0 = n }) older → n ≡ 11 → ⊥) → Kept (tickOf s w l c ch)
+  unfolding tickOf
+  tick-kept w h = let k : KeptIn (moveAt (ch .phase) s l c ch) = move-kept (ch .phase) h in record { loaded = k .loaded; tables = k .tables }
 
 -- ---- the tables changed elsewhere
 
@@ -104,10 +115,10 @@ elsewhere-is c l l′ e h = rw (eq-eqb (length l′) (length l) e) (copied-same 
 
 -- another channel's tick or trigger changes the tables elsewhere
 module _ (s l : List ℕ) (b c : ℕ) (ch : Channel) (other : b ≡ c → ⊥) where
-  pub tick-elsewhere : elsewhere c l (tickOf s l b ch .tables) ≡ tickOf s l b ch .tables
-  tick-elsewhere =
-      elsewhere-is c l (tickOf s l b ch .tables) (tick-length s l b ch)
-      (λ i h. tick-out s l b ch (firstOf c + i) (λ f g. apart b c i other h f g))
+  pub tick-elsewhere : (w : List ℕ) → elsewhere c l (tickOf s w l b ch .tables) ≡ tickOf s w l b ch .tables
+  tick-elsewhere w =
+      elsewhere-is c l (tickOf s w l b ch .tables) (tick-length s l b ch w)
+      (λ i h. tick-out s l b ch w (firstOf c + i) (λ f g. apart b c i other h f g))
 
   pub trigger-elsewhere : (level : ℕ) → elsewhere c l (triggered s l b ch level .tables) ≡ triggered s l b ch level .tables
   trigger-elsewhere level =
@@ -117,7 +128,7 @@ module _ (s l : List ℕ) (b c : ℕ) (ch : Channel) (other : b ≡ c → ⊥) w
 -- ---- any act
 
 pub act-length : (c : ℕ) (x : Side) (y : Act) → length (act c x y .tables) ≡ length (x .tables)
-act-length c x (Tick s) = tick-length s (x .tables) c (x .channel)
+act-length c x (Tick s w) = tick-length s (x .tables) c (x .channel) w
 act-length c x (Elsewhere l) = elsewhere-length c (x .tables) l
 act-length c x (Output v) = refl
 act-length c x Clear = refl
@@ -126,7 +137,7 @@ pub run-length : (c : ℕ) (x : Side) (ys : List Act) → length (run c x ys .ta
 run-length c x [] = refl
 run-length c x (y ∷ ys) = run-length c (act c x y) ys ∙ act-length c x y
 
--- ---- a word written to the output leaves all but the output, and is not taken while a ramp runs
+-- ---- a word written to the output leaves all but output and amplitude, and is not taken while a ramp runs or free-runs
 
 module _ (v : ℕ) (ch : Channel) where
   pub written-phase : written v ch .phase ≡ ch .phase
@@ -136,6 +147,10 @@ module _ (v : ℕ) (ch : Channel) where
   pub written-level : written v ch .level ≡ ch .level
   unfolding written
   written-level = choose (λ (x : Channel). x .level ≡ ch .level) (runsOf ch) _ _ refl refl
+
+  pub written-counter : written v ch .signal .counter ≡ ch .signal .counter
+  unfolding written
+  written-counter = choose (λ (x : Channel). x .signal .counter ≡ ch .signal .counter) (runsOf ch) _ _ refl refl
 
   pub written-loaded : written v ch .loaded ≡ ch .loaded
   unfolding written
@@ -150,7 +165,7 @@ module _ (v : ℕ) (ch : Channel) where
 -- acts without a tick leave channel c's words
 pub untimed-table : (c : ℕ) (x : Side) (ys : List Act) → ticksIn ys ≡ 0 → 128 * c + 128 ≤ length (x .tables) → SameTable (run c x ys .tables) (firstOf c) (x .tables) (firstOf c)
 untimed-table c x [] e h i f = refl
-untimed-table c x (Tick s ∷ ys) e h i f = absurd (omega arith)
+untimed-table c x (Tick s w ∷ ys) e h i f = absurd (omega arith)
 untimed-table c x (Elsewhere l ∷ ys) e h i f =
     untimed-table c (act c x (Elsewhere l)) ys e (rw (elsewhere-length c (x .tables) l) h) i f ∙ elsewhere-in c (x .tables) l h i f
 untimed-table c x (Output v ∷ ys) e h i f = untimed-table c (act c x (Output v)) ys e h i f
@@ -160,7 +175,7 @@ untimed-table c x (Clear ∷ ys) e h i f = untimed-table c (act c x Clear) ys e 
 pub untimed-ramp : (c : ℕ) (x : Side) (ys : List Act) → ticksIn ys ≡ 0
     → (run c x ys .channel .phase ≡ x .channel .phase) × (run c x ys .channel .loaded ≡ x .channel .loaded) × (run c x ys .channel .level ≡ x .channel .level)
 untimed-ramp c x [] e = (refl, refl, refl)
-untimed-ramp c x (Tick s ∷ ys) e = absurd (omega arith)
+untimed-ramp c x (Tick s w ∷ ys) e = absurd (omega arith)
 untimed-ramp c x (Elsewhere l ∷ ys) e = untimed-ramp c (act c x (Elsewhere l)) ys e
 untimed-ramp c x (Output v ∷ ys) e =
     let r = untimed-ramp c (act c x (Output v)) ys e in
@@ -172,8 +187,8 @@ untimed-ramp c x (Clear ∷ ys) e = untimed-ramp c (act c x Clear) ys e
 -- the acts before a tick that does not come are all of them
 pub before-all : (n : ℕ) (xs : List Act) → ticksIn xs ≤ n → until (suc n) xs ≡ xs
 before-all n [] h = refl
-before-all zero (Tick s ∷ xs) h = absurd (omega arith)
-before-all (suc n) (Tick s ∷ xs) h = ap (λ (ys : List Act). Tick s ∷ ys) (before-all n xs (omega arith))
+before-all zero (Tick s w ∷ xs) h = absurd (omega arith)
+before-all (suc n) (Tick s w ∷ xs) h = ap (λ (ys : List Act). Tick s w ∷ ys) (before-all n xs (omega arith))
 before-all n (Elsewhere l ∷ xs) h = ap (λ (ys : List Act). Elsewhere l ∷ ys) (before-all n xs h)
 before-all n (Output v ∷ xs) h = ap (λ (ys : List Act). Output v ∷ ys) (before-all n xs h)
 before-all n (Clear ∷ xs) h = ap (λ (ys : List Act). Clear ∷ ys) (before-all n xs h)
@@ -181,8 +196,17 @@ before-all n (Clear ∷ xs) h = ap (λ (ys : List Act). Clear ∷ ys) (before-al
 -- and the settings are those of the tick that comes after them
 pub held-next : (s z : List ℕ) (n : ℕ) (xs : List Act) → ticksIn xs ≤ n → heldOn s z (suc n) xs ≡ z
 held-next s z n [] h = refl
-held-next s z zero (Tick u ∷ xs) h = absurd (omega arith)
-held-next s z (suc n) (Tick u ∷ xs) h = held-next s z n xs (omega arith)
+held-next s z zero (Tick u w ∷ xs) h = absurd (omega arith)
+held-next s z (suc n) (Tick u w ∷ xs) h = held-next s z n xs (omega arith)
 held-next s z n (Elsewhere l ∷ xs) h = held-next s z n xs h
 held-next s z n (Output v ∷ xs) h = held-next s z n xs h
 held-next s z n (Clear ∷ xs) h = held-next s z n xs h
+
+-- and so are the wave tables
+pub waves-next : (z : List ℕ) (n : ℕ) (xs : List Act) → ticksIn xs ≤ n → wavesOn z (suc n) xs ≡ z
+waves-next z n [] h = refl
+waves-next z zero (Tick u w ∷ xs) h = absurd (omega arith)
+waves-next z (suc n) (Tick u w ∷ xs) h = waves-next z n xs (omega arith)
+waves-next z n (Elsewhere l ∷ xs) h = waves-next z n xs h
+waves-next z n (Output v ∷ xs) h = waves-next z n xs h
+waves-next z n (Clear ∷ xs) h = waves-next z n xs h

@@ -9,12 +9,13 @@ use lib.Dec.{eqb}
 use lib.ListN.{length, set, length-set}
 use lib.Seq.{set-getD, getD-set-same, getD-set-other}
 use borrow.Author.Tests.{eqb-true, eqb-false}
-use Rattle.map.specs.Addresses.{tableAt, rampMapAt}
+use Rattle.word.specs.Copy.{copied}
+use Rattle.map.specs.Addresses.{tableAt, rampMapAt, enableAt}
 use Rattle.channel.specs.declared.Phase.{Phase}
-use Rattle.channel.specs.declared.Phase.the-variants.{Rest, Counting, Running}
+use Rattle.channel.specs.declared.Phase.the-variants.{Rest, Counting, Running, FreeRunning}
 use Rattle.channel.specs.declared.Ramp.{Ramp}
 use Rattle.channel.specs.declared.Channel.{Channel}
-use Rattle.channel.specs.Channel.{Side, word, firstOf, loadsAt, copied, load, countTo, tickAt, tickOf, countdown, triggered}
+use Rattle.channel.specs.Channel.{Side, Move, word, firstOf, loadsAt, load, start, countTo, moveAt, tickOf, countdown, triggered}
 
 -- what is so on both sides of a test
 pub choose : {A : Type 0} (P : A → Type 0) (b : Bool) (x y : A) → P x → P y → P (cond b x y)
@@ -60,36 +61,45 @@ copied-same (suc n) s from l to h =
 module _ (s l : List ℕ) (c : ℕ) (ch : Channel) where
   -- a fact of the tables that is so before the load and after it
   module _ (P : List ℕ → Type 0) (p : P l) where
-    abbrev So : Side → Type 0
-    So x = P (x .tables)
+    abbrev Moved : Move → Type 0
+    Moved x = P (x .tables)
 
     load-tables : (level : ℕ) → ((from : ℕ) → P (copied 128 s from l (firstOf c))) → P (load s l c ch level .tables)
     unfolding load
     load-tables level q = q (tableAt c (word s (rampMapAt c level)))
 
+    start-tables : P (start s l c ch .tables)
+    unfolding start
+    start-tables = choose Moved (eqb (word s (enableAt c)) 1) _ _ p p
+
     count-tables : (m : ℕ) (older : Ramp) → ((from : ℕ) → P (copied 128 s from l (firstOf c))) → P (countTo m older s l c ch .tables)
     unfolding countTo
-    count-tables m older q = choose So (eqb m 0) _ _ p (choose So (loadsAt m) _ _ (load-tables (ch .level) q) p)
+    count-tables m older q = choose Moved (eqb m 0) _ _ start-tables (choose Moved (loadsAt m) _ _ (load-tables (ch .level) q) p)
 
-    tick-tables : (f : Phase) → ((from : ℕ) → P (copied 128 s from l (firstOf c))) → P (tickAt f s l c ch .tables)
-    unfolding tickAt
-    tick-tables Rest q = p
-    tick-tables (Counting n older) q = count-tables (n .0 - 1) older q
-    tick-tables (Running w) q = p
+    move-tables : (f : Phase) → ((from : ℕ) → P (copied 128 s from l (firstOf c))) → P (moveAt f s l c ch .tables)
+    unfolding moveAt
+    move-tables Rest q = p
+    move-tables (Counting n older) q = count-tables (n .0 - 1) older q
+    move-tables (Running w) q = p
+    move-tables (FreeRunning w) q = p
+
+    tick-tables : (w : List ℕ) → ((from : ℕ) → P (copied 128 s from l (firstOf c))) → P (tickOf s w l c ch .tables)
+    unfolding tickOf
+    tick-tables w q = move-tables (ch .phase) q
 
     trigger-tables : (level : ℕ) → ((from : ℕ) → P (copied 128 s from l (firstOf c))) → P (triggered s l c ch level .tables)
     unfolding triggered
-    trigger-tables level q = choose So (loadsAt (countdown s c level)) _ _ (load-tables level q) p
+    trigger-tables level q = choose (λ (x : Side). P (x .tables)) (loadsAt (countdown s c level)) _ _ (load-tables level q) p
 
-  pub tick-length : length (tickOf s l c ch .tables) ≡ length l
-  tick-length = tick-tables (λ x. length x ≡ length l) refl (ch .phase) (λ from. copied-length 128 s from l (firstOf c))
+  pub tick-length : (w : List ℕ) → length (tickOf s w l c ch .tables) ≡ length l
+  tick-length w = tick-tables (λ x. length x ≡ length l) refl w (λ from. copied-length 128 s from l (firstOf c))
 
   pub trigger-length : (level : ℕ) → length (triggered s l c ch level .tables) ≡ length l
   trigger-length level = trigger-tables (λ x. length x ≡ length l) refl level (λ from. copied-length 128 s from l (firstOf c))
 
   -- a word of another channel
-  pub tick-out : (at : ℕ) → (firstOf c ≤ at → at < firstOf c + 128 → ⊥) → word (tickOf s l c ch .tables) at ≡ word l at
-  tick-out at o = tick-tables (λ x. word x at ≡ word l at) refl (ch .phase) (λ from. copied-out 128 s from l (firstOf c) at o)
+  pub tick-out : (w : List ℕ) (at : ℕ) → (firstOf c ≤ at → at < firstOf c + 128 → ⊥) → word (tickOf s w l c ch .tables) at ≡ word l at
+  tick-out w at o = tick-tables (λ x. word x at ≡ word l at) refl w (λ from. copied-out 128 s from l (firstOf c) at o)
 
   pub trigger-out : (level at : ℕ) → (firstOf c ≤ at → at < firstOf c + 128 → ⊥) → word (triggered s l c ch level .tables) at ≡ word l at
   trigger-out level at o = trigger-tables (λ x. word x at ≡ word l at) refl level (λ from. copied-out 128 s from l (firstOf c) at o)

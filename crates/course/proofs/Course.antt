@@ -1,8 +1,9 @@
--- The course of a channel from a trigger on, by an invariant in five cases: the load to come, the start to come, running, at rest after
--- the end, nothing started. Each tick goes from case to case, giving the samples that are due (`ticked`); what happens between the ticks
+-- The course of a channel from a trigger on, by an invariant in six cases: the load to come, the start to come, running, running free,
+-- at rest after the end, nothing started. Each tick goes from case to case, giving the samples that are due (`ticked`); what happens between the ticks
 -- leaves the case as it is (`kept`). Times are sums, t + n ≡ d, so that nothing is subtracted. Assumes nothing.
 use mathlib.Core.Path.{_≡_, refl, ap, sym, _∙_}
-use mathlib.Core.Bool.{Bool, true, false, cond}
+use mathlib.Core.Bool.{Bool, true, false}
+use mathlib.Core.Logic.{inl, inr}
 use mathlib.Core.List.{List, [], _∷_}
 use Prim.Native.Nat.{ℕ, suc, _+_, _*_, _-_, _≤_, _<_}
 use native.Mathlib.Omega.{arith}
@@ -10,69 +11,27 @@ use native.Mathlib.Nat.{add-zero, add-suc, suc-add}
 use native.Mathlib.Numerals.{add-one}
 use lib.Dec.{leb, eqb}
 use lib.ListN.{length}
-use borrow.Author.Tests.{lt-ltb, le-ltb, leb-true, leb-false, eq-eqb, ne-eqb, eqb-true, eqb-false}
+use borrow.Author.Tests.{leb-true, leb-false, eq-eqb, ne-eqb, eqb-true, eqb-false}
 use Rattle.map.specs.Addresses.{tableAt, rampMapAt, enableAt}
 use Rattle.channel.specs.declared.Place.{Place}
 use Rattle.channel.specs.declared.Shown.{Shown}
+use Rattle.channel.specs.declared.Signal.{Signal}
 use Rattle.channel.specs.declared.Ramp.{Ramp}
-use Rattle.channel.specs.declared.Ramp.the-variants.{Still, Going}
+use Rattle.channel.specs.declared.Ramp.the-variants.{Still}
 use Rattle.channel.specs.declared.Phase.{Phase}
-use Rattle.channel.specs.declared.Phase.the-variants.{Rest, Counting, Running}
-use Rattle.channel.specs.declared.Channel.{Channel}
-use Rattle.channel.specs.Ramp.{enter, next, give, way, given, advance}
-use Rattle.channel.specs.Channel.{Side, side, word, firstOf, with, phaseOf, loadedFor, blank, load, start, countTo, tickAt, tickOf}
-use Rattle.channel.proofs.Counts as counts
+use Rattle.channel.specs.declared.Phase.the-variants.{Rest, Counting, Running, FreeRunning}
+use Rattle.channel.specs.Ramp.{way, ended, onward, given}
+use Rattle.channel.specs.Channel.{Side, side, word, firstOf, with, withSignal, phaseOf, loadedFor, blank, load, tickOf}
 use Rattle.course.specs.Points.{SameTable}
 use Rattle.course.specs.Course.{Act, Tick, Elsewhere, Output, Clear, act, run, ticksIn, heldOn}
-use Rattle.course.specs.Follows.{tableFor, totalFor, placeFor, sampleFor}
+use Rattle.course.specs.Follows.{tableFor, totalFor, placeFor, sampleFor, freeFor, Plays, signalFor}
 use Rattle.course.proofs.Copies.{copied-in}
-use Rattle.course.proofs.Acts.{tick-rest, elsewhere-in, written-phase, written-level, written-loaded, act-length}
-use Rattle.course.proofs.Tables.{same-enter, same-next, same-give}
+use Rattle.course.proofs.Acts.{tick-rest, elsewhere-in, written-phase, written-level, written-loaded, written-counter, act-length}
+use Rattle.course.proofs.Tables.{same-enter, same-next, same-sample}
 use Rattle.course.proofs.Walk.{placed, place-first, place-step, place-more, place-last}
-
--- ---- one tick in each phase
-
--- a ramp after the sample at place p: it goes on, or rests at the end point
-abbrev onward : Place → Phase
-onward p = phaseOf (cond (eqb (p .left .0) 0) Still (Going (way p 10 10)))
-
-module _ (s l : List ℕ) (c : ℕ) (ch : Channel) where
-  counting : (n : ℕ) (o : Ramp) → ch .phase ≡ Counting (record { 0 = n }) o → tickOf s l c ch ≡ countTo (n - 1) o s l c ch
-  unfolding tickAt
-  counting n o e = ap (λ (f : Phase). tickAt f s l c ch) e
-
-  tick-still : (n : ℕ) → ch .phase ≡ Counting (record { 0 = n }) Still → 1 < n → (n ≡ 11 → ⊥)
-      → tickOf s l c ch ≡ side (with ch (Counting (record { 0 = n - 1 }) Still) (ch .shown)) l
-  unfolding advance
-  tick-still n e h g = counting n Still e ∙ counts.on s l c ch Still n h g
-
-  tick-load : (n : ℕ) (o : Ramp) → ch .phase ≡ Counting (record { 0 = n }) o → n ≡ 11 → tickOf s l c ch ≡ load s l c ch (ch .level)
-  tick-load n o e h = counting n o e ∙ counts.at-load s l c ch o n h
-
-  tick-off : (n : ℕ) (o : Ramp) → ch .phase ≡ Counting (record { 0 = n }) o → n ≤ 1 → (word s (enableAt c) ≡ 1 → ⊥)
-      → tickOf s l c ch ≡ side (with ch Rest (ch .shown)) l
-  unfolding start
-  tick-off n o e h g = counting n o e ∙ counts.at-start s l c ch o n h ∙ rw (ne-eqb (word s (enableAt c)) 1 g)
-
-  tick-start : (n : ℕ) (o : Ramp) → ch .phase ≡ Counting (record { 0 = n }) o → n ≤ 1 → word s (enableAt c) ≡ 1
-      → tickOf s l c ch ≡ side (with ch (onward (enter l (firstOf c) 0)) (give l (firstOf c) (ch .loaded) (enter l (firstOf c) 0) (ch .shown))) l
-  unfolding start given
-  tick-start n o e h g = counting n o e ∙ counts.at-start s l c ch o n h ∙ rw g
-
-  tick-wait : (p : Place) (r : ℕ) → ch .phase ≡ Running (way p r 10) → 1 < r
-      → tickOf s l c ch ≡ side (with ch (Running (way p (r - 1) 10)) (ch .shown)) l
-  unfolding tickAt advance
-  tick-wait p r e h = rw (e, lt-ltb 1 r h)
-
-  tick-give : (p : Place) (r : ℕ) → ch .phase ≡ Running (way p r 10) → r ≤ 1
-      → tickOf s l c ch ≡ side (with ch (onward (next l (firstOf c) p)) (give l (firstOf c) (ch .loaded) (next l (firstOf c) p) (ch .shown))) l
-  unfolding tickAt advance given
-  tick-give p r e h = rw (e, le-ltb 1 r h)
-
-  -- a countdown above 11 falls by one, whatever an older ramp does
-  tick-count : (n : ℕ) (o : Ramp) → ch .phase ≡ Counting (record { 0 = n }) o → 11 < n
-      → (u : Ramp) × (v : Shown) × (tickOf s l c ch ≡ side (with ch (Counting (record { 0 = n - 1 }) u) v) l)
-  tick-count n o e h = (_, _, counting n o e ∙ counts.on s l c ch o n (omega arith) (λ q. absurd (omega arith)))
+use Rattle.course.proofs.Points.{differ}
+use Rattle.course.proofs.Moves.{move-start, move-give, free-give, tick-made, tick-still, tick-load, tick-off, tick-wait, tick-free-wait, tick-count}
+use Rattle.course.proofs.Signals.{Counted, signal-counted, first-made, next-made, free-made}
 
 -- ---- a trigger of level v sets the countdown d; the settings w are held on tick d − 10, and A00 is a on tick d
 
@@ -99,89 +58,152 @@ module _ (c v : ℕ) (w : List ℕ) (a d : ℕ) where
     -- loaded, and the start is to come
     starts : (n : ℕ) → t + n ≡ d → 1 ≤ n → n ≤ 10 → Held x → x .channel .phase ≡ Counting (record { 0 = n }) Still → Course t x
     -- sample k was the last, and the next comes in r ticks
-    runs : (k r : ℕ) → a ≡ 1 → t + r ≡ d + 10 * (k + 1) → 1 ≤ r → r ≤ 10 → k < T → Held x
+    runs : (k r : ℕ) → a ≡ 1 → t + r ≡ d + 10 * (k + 1) → 1 ≤ r → r ≤ 10 → k < T → Held x → Counted c v w k (x .channel .signal)
         → x .channel .phase ≡ Running (way (spot k) r 10) → Course t x
+    -- the same, the end's sample or one after it
+    frees : (k r : ℕ) → a ≡ 1 → freeFor w c v ≡ true → t + r ≡ d + 10 * (k + 1) → 1 ≤ r → r ≤ 10 → T ≤ k → Held x
+        → Counted c v w k (x .channel .signal) → x .channel .phase ≡ FreeRunning (way (spot T) r 10) → Course t x
     -- the end was reached
-    rests : a ≡ 1 → d + 10 * T ≤ t → Held x → x .channel .phase ≡ Rest → Course t x
+    rests : a ≡ 1 → freeFor w c v ≡ false → d + 10 * T ≤ t → Held x → x .channel .phase ≡ Rest → Course t x
     -- nothing started
     off : (a ≡ 1 → ⊥) → d ≤ t → Held x → x .channel .phase ≡ Rest → Course t x
 
-  -- the channel after a tick under the settings z
-  abbrev pub next-tick : List ℕ → Side → Side
-  next-tick z x = tickOf z (x .tables) c (x .channel)
+  -- the channel after a tick under the settings z, with the wave tables u
+  abbrev pub next-tick : List ℕ → List ℕ → Side → Side
+  next-tick z u x = tickOf z u (x .tables) c (x .channel)
 
   -- what the tick after t ticks does
-  pub record Ticked (t : ℕ) (z : List ℕ) (x : Side) : Type 0 where
-    pub course : Course (t + 1) (next-tick z x)
-    pub aborted : t + 11 ≡ d → next-tick z x .channel .shown ≡ blank (x .channel .shown)
-    pub sample : a ≡ 1 → (k : ℕ) → k ≤ T → t + 1 ≡ d + 10 * k → next-tick z x .channel .shown ≡ sampleFor w c v k (x .channel .shown)
-    pub silent : d ≤ t + 10 → (a ≡ 1 → (k : ℕ) → k ≤ T → t + 1 ≡ d + 10 * k → ⊥) → next-tick z x .channel .shown ≡ x .channel .shown
+  pub record Ticked (t : ℕ) (z u : List ℕ) (x : Side) : Type 0 where
+    pub course : Course (t + 1) (next-tick z u x)
+    pub aborted : t + 11 ≡ d → next-tick z u x .channel .shown ≡ blank (x .channel .shown)
+    pub held : t + 11 ≡ d → next-tick z u x .channel .signal ≡ x .channel .signal
+    pub sample : a ≡ 1 → (k : ℕ) → k ≤ T → t + 1 ≡ d + 10 * k → next-tick z u x .channel .shown ≡ sampleFor w c v k (x .channel .shown)
+    pub silent : d ≤ t + 10 → (a ≡ 1 → (k : ℕ) → k ≤ T → t + 1 ≡ d + 10 * k → ⊥) → next-tick z u x .channel .shown ≡ x .channel .shown
+    pub made : a ≡ 1 → (k : ℕ) → Plays w c v k → t + 1 ≡ d + 10 * k
+        → next-tick z u x .channel .signal ≡ signalFor u w c v k (next-tick z u x .channel .shown .amplitude) (x .channel .signal)
+    pub still : d ≤ t + 10 → (a ≡ 1 → (k : ℕ) → Plays w c v k → t + 1 ≡ d + 10 * k → ⊥) → next-tick z u x .channel .signal ≡ x .channel .signal
 
-  -- the same copy, another phase and other words shown
-  held-with : (x : Side) (p : Phase) (s : Shown) → Held x → Held (side (with (x .channel) p s) (x .tables))
-  held-with x p s h = record { loaded = h .loaded; table = h .table }
+  -- the same copy, another phase, other words shown and another signal
+  held-with : (x : Side) (p : Phase) (s : Shown) (g : Signal) → Held x → Held (side (withSignal (with (x .channel) p s) g) (x .tables))
+  held-with x p s g h = record { loaded = h .loaded; table = h .table }
 
-  -- once sample k is given
-  gave : (k t : ℕ) (x : Side) → a ≡ 1 → k ≤ T → t ≡ d + 10 * k → Held x → x .channel .phase ≡ onward (spot k) → Course t x
-  gave k t x y h q e f = go (leb T k) refl
+  -- ---- a sample of the ramp
+
+  -- where the ramp goes from sample k
+  abbrev past : ℕ → Phase
+  past k = phaseOf (onward (loadedFor w c v) 10 (spot k))
+
+  -- the channel once sample k is given
+  abbrev sampled-at : ℕ → List ℕ → Side → Side
+  sampled-at k u x =
+      let s : Shown = sampleFor w c v k (x .channel .shown) in
+      side (withSignal (with (x .channel) (past k) s) (signalFor u w c v k (s .amplitude) (x .channel .signal))) (x .tables)
+
+  gave : (k t : ℕ) (x : Side) → a ≡ 1 → k ≤ T → t ≡ d + 10 * k → Held x → Counted c v w k (x .channel .signal) → x .channel .phase ≡ past k → Course t x
+  unfolding ended
+  gave k t x y h q e n f = go (leb T k) refl (freeFor w c v) refl
     where
-      go : (b : Bool) → leb T k ≡ b → Course t x
-      go true g =
-          rests y (omega (arith, leb-true)) e
-          (f ∙ rw (eq-eqb (spot k .left .0) 0 (place-last w from k (omega (arith, leb-true)))))
-      go false g =
-          let m : 1 ≤ spot k .left .0 = place-more w from k (omega (arith, leb-false)) in
-          runs k 10 y (omega arith) (omega arith) (omega arith) (omega (arith, leb-false)) e
+      go : (b : Bool) → leb T k ≡ b → (i : Bool) → freeFor w c v ≡ i → Course t x
+      go true g true m =
+          let kT : k ≡ T = omega (arith, leb-true) in
+          frees k 10 y m (omega arith) (omega arith) (omega arith) (omega arith) e n
+          (f ∙ rw (kT, eq-eqb (spot T .left .0) 0 (place-last w from T refl), m))
+      go true g false m = rests y m (omega (arith, leb-true)) e (f ∙ rw (eq-eqb (spot k .left .0) 0 (place-last w from k (omega (arith, leb-true))), m))
+      go false g i m =
+          let j : 1 ≤ spot k .left .0 = place-more w from k (omega (arith, leb-false)) in
+          runs k 10 y (omega arith) (omega arith) (omega arith) (omega (arith, leb-false)) e n
           (f ∙ rw (ne-eqb (spot k .left .0) 0 (λ q. absurd (omega arith))))
 
-  -- a tick that gives sample k, and no other
-  sampled : (k t : ℕ) (z : List ℕ) (x : Side) → a ≡ 1 → k ≤ T → t + 1 ≡ d + 10 * k → Held x
-      → next-tick z x ≡ side (with (x .channel) (onward (spot k)) (sampleFor w c v k (x .channel .shown))) (x .tables)
-      → Ticked t z x
-  sampled k t z x y h q e u =
+  -- a tick that gives sample k of the ramp, and no other
+  sampled : (k t : ℕ) (z u : List ℕ) (x : Side) → a ≡ 1 → k ≤ T → t + 1 ≡ d + 10 * k → Held x → next-tick z u x ≡ sampled-at k u x → Ticked t z u x
+  sampled k t z u x y h q e o =
       record {
-        course = rw u (gave k (t + 1) _ y h q (held-with x _ _ e) refl);
+        course = rw o (gave k (t + 1) (sampled-at k u x) y h q (held-with x _ _ _ e) (signal-counted c v w u _ (x .channel .signal) k) refl);
         aborted = λ b. absurd (omega arith);
-        sample = λ b j i g. let kj : k ≡ j = omega arith in rw (← kj) (ap (λ (n : Side). n .channel .shown) u);
+        held = λ b. absurd (omega arith);
+        sample = λ b j i g. let kj : k ≡ j = omega arith in rw (← kj) (ap (λ (n : Side). n .channel .shown) o);
         silent = λ m n. absurd (n y k h q);
+        made = λ b j i g. let kj : k ≡ j = omega arith in rw (← kj, o);
+        still = λ m n. absurd (n y k (inl h) q);
       }
 
   -- a tick that gives none
-  unsampled : (t : ℕ) (z : List ℕ) (x x′ : Side) → d ≤ t + 10 → next-tick z x ≡ x′ → x′ .channel .shown ≡ x .channel .shown → Course (t + 1) x′
-      → (a ≡ 1 → (k : ℕ) → k ≤ T → t + 1 ≡ d + 10 * k → ⊥) → Ticked t z x
-  unsampled t z x x′ b u s y n =
+  unsampled : (t : ℕ) (z u : List ℕ) (x x′ : Side) → d ≤ t + 10 → next-tick z u x ≡ x′ → x′ .channel .shown ≡ x .channel .shown
+      → x′ .channel .signal ≡ x .channel .signal → Course (t + 1) x′ → (a ≡ 1 → (k : ℕ) → Plays w c v k → t + 1 ≡ d + 10 * k → ⊥) → Ticked t z u x
+  unsampled t z u x x′ b o s g y n =
       record {
-        course = rw u y;
+        course = rw o y;
         aborted = λ i. absurd (omega arith);
-        sample = λ i j k g. absurd (n i j k g);
-        silent = λ m i. rw u s;
+        held = λ i. absurd (omega arith);
+        sample = λ i j k g. absurd (n i j (inl k) g);
+        silent = λ m i. rw o s;
+        made = λ i j k g. absurd (n i j k g);
+        still = λ m i. rw o g;
       }
 
   -- the start, and the sample after sample k, read from the copy
-  first-given : (z : List ℕ) (x : Side) (n : ℕ) → Held x → x .channel .phase ≡ Counting (record { 0 = n }) Still → n ≤ 1 → word z (enableAt c) ≡ 1
-      → next-tick z x ≡ side (with (x .channel) (onward (spot 0)) (sampleFor w c v 0 (x .channel .shown))) (x .tables)
-  first-given z x n h f g e =
+  first-given : (z u : List ℕ) (x : Side) (n : ℕ) → Held x → x .channel .phase ≡ Counting (record { 0 = n }) Still → n ≤ 1 → word z (enableAt c) ≡ 1
+      → next-tick z u x ≡ sampled-at 0 u x
+  unfolding given
+  first-given z u x n h f g e =
       rw (
-        tick-start z (x .tables) c (x .channel) n Still f g e,
+        tick-made z (x .tables) c (x .channel) u _ (move-start z (x .tables) c (x .channel) n Still f g e),
         h .loaded,
         same-enter (x .tables) (firstOf c) w from (h .table) 0 (omega arith),
         place-first w from,
-        same-give (x .tables) (firstOf c) w from (h .table) (loadedFor w c v) (spot 0) (x .channel .shown) (placed w from 0),
+        same-sample (x .tables) (firstOf c) w from (h .table) (loadedFor w c v) (spot 0) (placed w from 0),
+        first-made c v w u _ (x .channel .signal),
       )
 
-  next-given : (z : List ℕ) (x : Side) (k r : ℕ) → Held x → x .channel .phase ≡ Running (way (spot k) r 10) → r ≤ 1 → k < T
-      → next-tick z x ≡ side (with (x .channel) (onward (spot (k + 1))) (sampleFor w c v (k + 1) (x .channel .shown))) (x .tables)
-  next-given z x k r h f g i =
+  next-given : (z u : List ℕ) (x : Side) (k r : ℕ) → Held x → Counted c v w k (x .channel .signal) → x .channel .phase ≡ Running (way (spot k) r 10)
+      → r ≤ 1 → k < T → next-tick z u x ≡ sampled-at (k + 1) u x
+  unfolding given
+  next-given z u x k r h n f g i =
       rw (
-        tick-give z (x .tables) c (x .channel) (spot k) r f g,
+        tick-made z (x .tables) c (x .channel) u _ (move-give z (x .tables) c (x .channel) (spot k) r f g),
         h .loaded,
         same-next (x .tables) (firstOf c) w from (h .table) (spot k)
             (placed w from k .inner (place-more w from k i)),
         place-step w from k i,
-        same-give (x .tables) (firstOf c) w from (h .table) (loadedFor w c v) (spot (k + 1)) (x .channel .shown) (placed w from (k + 1)),
+        same-sample (x .tables) (firstOf c) w from (h .table) (loadedFor w c v) (spot (k + 1)) (placed w from (k + 1)),
+        next-made c v w u _ (x .channel .signal) k i n,
       )
 
-  -- the load
+  -- ---- a sample of the free run
+
+  abbrev free-at : ℕ → List ℕ → Side → Side
+  free-at k u x =
+      side
+      (withSignal (with (x .channel) (FreeRunning (way (spot T) 10 10)) (x .channel .shown)) (signalFor u w c v k (x .channel .shown .amplitude) (x .channel .signal)))
+      (x .tables)
+
+  free-given : (z u : List ℕ) (x : Side) (k r : ℕ) → Held x → Counted c v w k (x .channel .signal) → x .channel .phase ≡ FreeRunning (way (spot T) r 10)
+      → r ≤ 1 → T ≤ k → freeFor w c v ≡ true → next-tick z u x ≡ free-at (k + 1) u x
+  free-given z u x k r h n f g i e =
+      rw (
+        tick-made z (x .tables) c (x .channel) u _ (free-give z (x .tables) c (x .channel) (spot T) r f g),
+        h .loaded,
+        free-made c v w u (x .channel .shown .amplitude) (x .channel .signal) k i e n,
+      )
+
+  free-sampled : (k t : ℕ) (z u : List ℕ) (x : Side) → a ≡ 1 → freeFor w c v ≡ true → T < k → t + 1 ≡ d + 10 * k → Held x
+      → next-tick z u x ≡ free-at k u x → Ticked t z u x
+  free-sampled k t z u x y m h q e o =
+      record {
+        course =
+            rw o
+            (frees k 10 y m (omega arith) (omega arith) (omega arith) (omega arith) (held-with x _ _ _ e)
+            (signal-counted c v w u (x .channel .shown .amplitude) (x .channel .signal) k) refl);
+        aborted = λ b. absurd (omega arith);
+        held = λ b. absurd (omega arith);
+        sample = λ b j i g. absurd (omega arith);
+        silent = λ b n. ap (λ (i : Side). i .channel .shown) o;
+        made = λ b j i g. let kj : k ≡ j = omega arith in rw (← kj, o);
+        still = λ b n. absurd (n y k (inr m) q);
+      }
+
+  -- ---- the load
+
   pub loads : (x : Side) → 128 * c + 128 ≤ length (x .tables) → Held (load w (x .tables) c (x .channel) v)
   unfolding load
   loads x r =
@@ -198,79 +220,114 @@ module _ (c v : ℕ) (w : List ℕ) (a d : ℕ) where
   unfolding load
   load-shown x = refl
 
-  -- any tick
-  pub ticked : (t : ℕ) (z : List ℕ) (x : Side) → 128 * c + 128 ≤ length (x .tables) → (t + 11 ≡ d → z ≡ w) → (t + 1 ≡ d → word z (enableAt c) ≡ a)
-      → Course t x → Ticked t z x
-  ticked t z x m lo en (off y h e f) = unsampled t z x x (omega arith) (tick-rest z (x .tables) c (x .channel) f) refl (off y (omega arith) e f) (λ i k j u. y i)
-  ticked t z x m lo en (rests y h e f) =
-      unsampled t z x x (omega arith) (tick-rest z (x .tables) c (x .channel) f) refl (rests y (omega arith) e f) (λ i k j u. omega arith)
-  ticked t z x m lo en (runs k r y q p b h e f) = go (leb r 1) refl
+  load-signal : (x : Side) → load w (x .tables) c (x .channel) v .channel .signal ≡ x .channel .signal
+  unfolding load
+  load-signal x = refl
+
+  -- ---- any tick
+
+  -- after the end no sample is given, but for free run
+  no-more : (t k : ℕ) → freeFor w c v ≡ false → d + 10 * T ≤ t → Plays w c v k → t + 1 ≡ d + 10 * k → ⊥
+  no-more t k e h (inl g) q = omega arith
+  no-more t k e h (inr g) q = differ (freeFor w c v) g e
+
+  pub ticked : (t : ℕ) (z u : List ℕ) (x : Side) → 128 * c + 128 ≤ length (x .tables) → (t + 11 ≡ d → z ≡ w) → (t + 1 ≡ d → word z (enableAt c) ≡ a)
+      → Course t x → Ticked t z u x
+  ticked t z u x m lo en (off y h e f) =
+      unsampled t z u x x (omega arith) (tick-rest z (x .tables) c (x .channel) u f) refl refl (off y (omega arith) e f) (λ i k j o. y i)
+  ticked t z u x m lo en (rests y i h e f) =
+      unsampled t z u x x (omega arith) (tick-rest z (x .tables) c (x .channel) u f) refl refl (rests y i (omega arith) e f) (λ b k j o. no-more t k i h j o)
+  ticked t z u x m lo en (runs k r y q p b h e n f) = go (leb r 1) refl
     where
-      go : (i : Bool) → leb r 1 ≡ i → Ticked t z x
-      go true g = sampled (k + 1) t z x y (omega arith) (omega (arith, leb-true)) e (next-given z x k r e f (omega (arith, leb-true)) h)
+      go : (i : Bool) → leb r 1 ≡ i → Ticked t z u x
+      go true g = sampled (k + 1) t z u x y (omega arith) (omega (arith, leb-true)) e (next-given z u x k r e n f (omega (arith, leb-true)) h)
       go false g =
           let r1 : 1 < r = omega (arith, leb-false) in
-          unsampled t z x _ (omega arith) (tick-wait z (x .tables) c (x .channel) (spot k) r f r1) refl
-          (runs k (r - 1) y (omega arith) (omega arith) (omega arith) h (held-with x _ _ e) refl)
-          (λ i j n u. omega arith)
-  ticked t z x m lo en (starts n q p b e f) = go (leb n 1) refl (eqb a 1) refl
+          unsampled t z u x _ (omega arith) (tick-wait z (x .tables) c (x .channel) u (spot k) r f r1) refl refl
+          (runs k (r - 1) y (omega arith) (omega arith) (omega arith) h (held-with x _ _ _ e) n refl)
+          (λ i j o s. omega arith)
+  ticked t z u x m lo en (frees k r y i q p b h e n f) = go (leb r 1) refl
     where
-      go : (i : Bool) → leb n 1 ≡ i → (j : Bool) → eqb a 1 ≡ j → Ticked t z x
+      go : (j : Bool) → leb r 1 ≡ j → Ticked t z u x
+      go true g = free-sampled (k + 1) t z u x y i (omega arith) (omega (arith, leb-true)) e (free-given z u x k r e n f (omega (arith, leb-true)) h i)
+      go false g =
+          let r1 : 1 < r = omega (arith, leb-false) in
+          unsampled t z u x _ (omega arith) (tick-free-wait z (x .tables) c (x .channel) u (spot T) r f r1) refl refl
+          (frees k (r - 1) y i (omega arith) (omega arith) (omega arith) h (held-with x _ _ _ e) n refl)
+          (λ l j o s. omega arith)
+  ticked t z u x m lo en (starts n q p b e f) = go (leb n 1) refl (eqb a 1) refl
+    where
+      go : (i : Bool) → leb n 1 ≡ i → (j : Bool) → eqb a 1 ≡ j → Ticked t z u x
       go true g true y =
-          sampled 0 t z x (eqb-true a 1 y) (omega arith) (omega (arith, leb-true)) e
-          (first-given z x n e f (omega (arith, leb-true)) (en (omega (arith, leb-true)) ∙ eqb-true a 1 y))
+          sampled 0 t z u x (eqb-true a 1 y) (omega arith) (omega (arith, leb-true)) e
+          (first-given z u x n e f (omega (arith, leb-true)) (en (omega (arith, leb-true)) ∙ eqb-true a 1 y))
       go true g false y =
           let no : a ≡ 1 → ⊥ = eqb-false a 1 y in
-          unsampled t z x _ (omega arith)
-          (tick-off z (x .tables) c (x .channel) n Still f (omega (arith, leb-true)) (λ i. no (sym (en (omega (arith, leb-true))) ∙ i))) refl
-          (off no (omega (arith, leb-true)) (held-with x _ _ e) refl)
-          (λ i j k u. no i)
+          unsampled t z u x _ (omega arith)
+          (tick-off z (x .tables) c (x .channel) u n Still f (omega (arith, leb-true)) (λ i. no (sym (en (omega (arith, leb-true))) ∙ i))) refl refl
+          (off no (omega (arith, leb-true)) (held-with x _ _ _ e) refl)
+          (λ i j k o. no i)
       go false g j y =
           let n1 : 1 < n = omega (arith, leb-false) in
-          unsampled t z x _ (omega arith) (tick-still z (x .tables) c (x .channel) n f n1 (λ i. absurd (omega arith))) refl
-          (starts (n - 1) (omega arith) (omega arith) (omega arith) (held-with x _ _ e) refl)
-          (λ i j k u. omega arith)
-  ticked t z x m lo en (waits n o q p e f) = go (leb n 11) refl
+          unsampled t z u x _ (omega arith) (tick-still z (x .tables) c (x .channel) u n f n1 (λ i. absurd (omega arith))) refl refl
+          (starts (n - 1) (omega arith) (omega arith) (omega arith) (held-with x _ _ _ e) refl)
+          (λ i j k o. omega arith)
+  ticked t z u x m lo en (waits n o q p e f) = go (leb n 11) refl
     where
-      early : (t + 11 ≡ d → next-tick z x .channel .shown ≡ blank (x .channel .shown)) → Course (t + 1) (next-tick z x) → Ticked t z x
-      early s y = record { course = y; aborted = s; sample = λ i j k u. absurd (omega arith); silent = λ i j. absurd (omega arith) }
+      early : (t + 11 ≡ d → next-tick z u x .channel .shown ≡ blank (x .channel .shown)) → (t + 11 ≡ d → next-tick z u x .channel .signal ≡ x .channel .signal)
+          → Course (t + 1) (next-tick z u x) → Ticked t z u x
+      early s g y =
+          record {
+            course = y;
+            aborted = s;
+            held = g;
+            sample = λ i j k b. absurd (omega arith);
+            silent = λ i j. absurd (omega arith);
+            made = λ i j k b. absurd (omega arith);
+            still = λ i j. absurd (omega arith);
+          }
 
-      go : (i : Bool) → leb n 11 ≡ i → Ticked t z x
+      go : (i : Bool) → leb n 11 ≡ i → Ticked t z u x
       go true g =
           let n1 : n ≡ 11 = omega (arith, leb-true) in
-          let u : next-tick z x ≡ load w (x .tables) c (x .channel) v = tick-load z (x .tables) c (x .channel) n o f n1 ∙ rw (e, lo (omega arith)) in
-          early (λ i. rw u (load-shown x)) (rw u (starts 10 (omega arith) (omega arith) (omega arith) (loads x m) (load-phase x)))
+          let y : next-tick z u x ≡ load w (x .tables) c (x .channel) v = tick-load z (x .tables) c (x .channel) u n o f n1 ∙ rw (e, lo (omega arith)) in
+          early (λ i. rw y (load-shown x)) (λ i. rw y (load-signal x)) (rw y (starts 10 (omega arith) (omega arith) (omega arith) (loads x m) (load-phase x)))
       go false g =
           let n1 : 11 < n = omega (arith, leb-false) in
-          let u = tick-count z (x .tables) c (x .channel) n o f n1 in
-          early (λ i. absurd (omega arith)) (rw (u .2) (waits (n - 1) (u .0) (omega arith) (omega arith) e refl))
+          let y = tick-count z (x .tables) c (x .channel) u n o f n1 in
+          early (λ i. absurd (omega arith)) (λ i. absurd (omega arith)) (rw (y .3) (waits (n - 1) (y .0) (omega arith) (omega arith) e refl))
 
   -- ---- between the ticks
 
-  -- what leaves level, phase and copy leaves the course as it is
+  -- what leaves level, phase, copy and counter leaves the course as it is
   kept : (t : ℕ) (x x′ : Side) → x′ .channel .level ≡ x .channel .level → x′ .channel .loaded ≡ x .channel .loaded → x′ .channel .phase ≡ x .channel .phase
-      → SameTable (x′ .tables) (firstOf c) (x .tables) (firstOf c) → Course t x → Course t x′
-  kept t x x′ i p q s y = go y
+      → x′ .channel .signal .counter ≡ x .channel .signal .counter → SameTable (x′ .tables) (firstOf c) (x .tables) (firstOf c) → Course t x → Course t x′
+  kept t x x′ i p q j s y = go y
     where
       same : Held x → Held x′
       same h = record { loaded = p ∙ h .loaded; table = λ n g. s n g ∙ h .table n g }
 
+      as-counted : (k : ℕ) → Counted c v w k (x .channel .signal) → Counted c v w k (x′ .channel .signal)
+      as-counted k n e = j ∙ n e
+
       go : Course t x → Course t x′
       go (waits n o u b e f) = waits n o u b (i ∙ e) (q ∙ f)
       go (starts n u b g e f) = starts n u b g (same e) (q ∙ f)
-      go (runs k r y u b g h e f) = runs k r y u b g h (same e) (q ∙ f)
-      go (rests y h e f) = rests y h (same e) (q ∙ f)
+      go (runs k r y u b g h e n f) = runs k r y u b g h (same e) (as-counted k n) (q ∙ f)
+      go (frees k r y m u b g h e n f) = frees k r y m u b g h (same e) (as-counted k n) (q ∙ f)
+      go (rests y m h e f) = rests y m h (same e) (q ∙ f)
       go (off y h e f) = off y h (same e) (q ∙ f)
 
   pub beside-elsewhere : (t : ℕ) (x : Side) (l : List ℕ) → 128 * c + 128 ≤ length (x .tables) → Course t x → Course t (act c x (Elsewhere l))
-  beside-elsewhere t x l m y = kept t x (act c x (Elsewhere l)) refl refl refl (elsewhere-in c (x .tables) l m) y
+  beside-elsewhere t x l m y = kept t x (act c x (Elsewhere l)) refl refl refl refl (elsewhere-in c (x .tables) l m) y
 
   pub beside-output : (t : ℕ) (x : Side) (o : ℕ) → Course t x → Course t (act c x (Output o))
   beside-output t x o y =
-      kept t x (act c x (Output o)) (written-level o (x .channel)) (written-loaded o (x .channel)) (written-phase o (x .channel)) (λ i h. refl) y
+      kept t x (act c x (Output o)) (written-level o (x .channel)) (written-loaded o (x .channel)) (written-phase o (x .channel))
+      (written-counter o (x .channel)) (λ i h. refl) y
 
   pub beside-clear : (t : ℕ) (x : Side) → Course t x → Course t (act c x Clear)
-  beside-clear t x y = kept t x (act c x Clear) refl refl refl (λ i h. refl) y
+  beside-clear t x y = kept t x (act c x Clear) refl refl refl refl (λ i h. refl) y
 
   -- ---- any acts
 
@@ -282,11 +339,11 @@ module _ (c v : ℕ) (w : List ℕ) (a d : ℕ) where
   pub course-run : (t : ℕ) (s z : List ℕ) (x : Side) (xs : List Act) → 128 * c + 128 ≤ length (x .tables) → Ahead t s z xs → Course t x
       → Course (t + ticksIn xs) (run c x xs)
   course-run t s z x [] m h y = rw add-zero y
-  course-run t s z x (Tick u ∷ xs) m h y =
+  course-run t s z x (Tick o u ∷ xs) m h y =
       rw (add-suc, ← suc-add, ← add-one)
-      (course-run (t + 1) s z (act c x (Tick u)) xs (rw (act-length c x (Tick u)) m)
+      (course-run (t + 1) s z (act c x (Tick o u)) xs (rw (act-length c x (Tick o u)) m)
       (record { loads = λ n q. h .loads (suc n) (omega arith); enabled = λ n q. h .enabled (suc n) (omega arith) })
-      (ticked t u x m (λ q. h .loads 0 (omega arith)) (λ q. h .enabled 0 (omega arith)) y .course))
+      (ticked t o u x m (λ q. h .loads 0 (omega arith)) (λ q. h .enabled 0 (omega arith)) y .course))
   course-run t s z x (Elsewhere l ∷ xs) m h y =
       course-run t s z (act c x (Elsewhere l)) xs (rw (act-length c x (Elsewhere l)) m) (record { loads = h .loads; enabled = h .enabled }) (beside-elsewhere t x l m y)
   course-run t s z x (Output o ∷ xs) m h y = course-run t s z (act c x (Output o)) xs m (record { loads = h .loads; enabled = h .enabled }) (beside-output t x o y)

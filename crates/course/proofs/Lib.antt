@@ -3,8 +3,11 @@ pub mod Acts
 pub mod Tables
 pub mod Walk
 pub mod Points
+pub mod Moves
+pub mod Signals
 pub mod Course
 pub mod Follows
 pub mod Outputs
+pub mod Plain
 pub mod Ramps
 pub mod Appends

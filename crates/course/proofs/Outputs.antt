@@ -1,99 +1,198 @@
--- The outputs of a ramp follow from what was loaded and the output just before the start (`outputs-follow`): each sample sets the output
--- or holds it, and between samples it stays, since no output write is taken while a ramp runs. Assumes nothing.
+-- The amplitudes and the outputs of a ramp follow from what was loaded and what stood there just before the start (`outputs-follow`): each
+-- sample sets such a word or holds it, and between samples it stays, since no output write is taken while a ramp runs or free-runs. This is
+-- said once of any word of a channel (`Traced`), then of the two. Assumes nothing.
 use mathlib.Core.Path.{_≡_, refl, ap, sym, subst, _∙_}
+use mathlib.Core.Bool.{Bool, true, false, cond}
+use mathlib.Core.Logic.{inl, inr}
 use mathlib.Core.List.{List, [], _∷_}
-use Prim.Native.Nat.{ℕ, zero, suc, _+_, _*_, _-_, _≤_, _<_}
+use Prim.Native.Nat.{ℕ, zero, suc, _+_, _*_, _-_, _≤_, _<_, min}
 use native.Mathlib.Omega.{arith}
 use native.Mathlib.Nat.{zero-add, add-zero, add-suc, suc-add}
 use native.Mathlib.Numerals.{add-one}
+use lib.Dec.{leb}
 use lib.ListN.{length}
+use borrow.Author.Tests.{leb-true, leb-false, le-leb}
 use Rattle.map.specs.Addresses.{enableAt}
 use Rattle.sum.specs.declared.Sum.{Sum}
-use Rattle.sum.specs.declared.Sum.the-variants.{Word, Overflow}
-use Rattle.channel.specs.declared.Place.{Place}
+use Rattle.sum.specs.declared.Sum.the-variants.{Overflow}
 use Rattle.channel.specs.declared.Shown.{Shown}
+use Rattle.channel.specs.declared.Signal.{Signal}
 use Rattle.channel.specs.declared.Phase.{Phase}
-use Rattle.channel.specs.declared.Phase.the-variants.{Running}
 use Rattle.channel.specs.declared.Channel.{Channel}
-use Rattle.channel.specs.Ramp.{put, way}
+use Rattle.channel.specs.Ramp.{hold}
 use Rattle.channel.specs.Channel.{Side, word, rampOf, going, countdown, triggered}
-use Rattle.course.specs.Course.{Act, Tick, Elsewhere, Output, Clear, act, run, ticksIn, until, heldOn}
-use Rattle.course.specs.Follows.{totalFor, sampleFor}
-use Rattle.course.specs.Outputs.{hold, sumFor, latest, Outputs, OutputsFollow}
+use Rattle.course.specs.Course.{Act, Tick, Elsewhere, Output, Clear, act, run, ticksIn, until, heldOn, wavesOn}
+use Rattle.course.specs.Follows.{totalFor, sumFor, freeFor, Plays}
+use Rattle.course.specs.Outputs.{latest, amplitudeFor, outputSum, GoesOn, Outputs, OutputsFollow}
 use Rattle.course.proofs.Copies.{trigger-length}
-use Rattle.course.proofs.Acts.{act-length, before-all, not-written}
-use Rattle.course.proofs.Course.{Course, waits, starts, runs, rests, off, Ahead, Ticked, ticked, beside-elsewhere, beside-output, beside-clear}
+use Rattle.course.proofs.Acts.{act-length, before-all, waves-next, not-written}
+use Rattle.course.proofs.Points.{differ}
+use Rattle.course.proofs.Signals.{same-sound, signal-output}
+use Rattle.course.proofs.Course.{Course, waits, starts, runs, frees, rests, off, Ahead, Ticked, ticked, beside-elsewhere, beside-output, beside-clear}
 use Rattle.course.proofs.Follows.{course-trigger, ahead, tick-now}
 
-put-output : (x : Sum) (p : Place) (s : Shown) → put x p s .output ≡ hold x (s .output)
-put-output (Word v) p s = refl
-put-output Overflow p s = refl
+module _ (c v : ℕ) (w : List ℕ) (d : ℕ) where
+  abbrev T : ℕ
+  T = totalFor w c v
 
--- a word written to the output, or anything else that is no tick, leaves the output of a running channel
-written-output : (c o : ℕ) (x : Side) (p : Place) (r : ℕ) → x .channel .phase ≡ Running (way p r 10)
-    → act c x (Output o) .channel .shown .output ≡ x .channel .shown .output
-written-output c o x p r f =
-    ap (λ (ch : Channel). ch .shown .output) (not-written o (x .channel) (ap (λ (q : Phase). going (rampOf q)) f))
+  goes-plays : (k : ℕ) → GoesOn w c v k → Plays w c v k
+  goes-plays k (inl h) = inl (omega arith)
+  goes-plays k (inr e) = inr e
 
-module _ (c v : ℕ) (w : List ℕ) (d o : ℕ) where
-  sample-output : (k : ℕ) (s : Shown) → sampleFor w c v k s .output ≡ hold (sumFor w c v k) (s .output)
-  sample-output k s = put-output (sumFor w c v k) _ s
+  plays-goes : (k : ℕ) → Plays w c v (suc k) → GoesOn w c v k
+  plays-goes k (inl h) = inl (omega arith)
+  plays-goes k (inr e) = inr e
 
-  -- the output t ticks after the trigger, if the ramp runs then
-  Traced : ℕ → Side → Type 0
-  Traced t x = (k j : ℕ) → k < totalFor w c v → j < 10 → t ≡ d + 10 * k + j → x .channel .shown .output ≡ latest w c v o k
+  -- ---- any word of a channel, o before the start, of which each sample makes a sum or holds it
 
-  -- just after a sample
-  sample-out : (t : ℕ) (z : List ℕ) (x : Side) → Ticked c v w 1 d t z x → Traced t x → (t + 1 ≡ d → x .channel .shown .output ≡ o)
-      → (k : ℕ) → k ≤ totalFor w c v → t + 1 ≡ d + 10 * k → act c x (Tick z) .channel .shown .output ≡ latest w c v o k
-  unfolding Traced
-  sample-out t z x y r b zero h e =
-      ap (λ (s : Shown). s .output) (y .sample refl 0 h e) ∙ sample-output 0 (x .channel .shown) ∙ ap (λ (u : ℕ). hold (sumFor w c v 0) u) (b (omega arith))
-  sample-out t z x y r b (suc k) h e =
-      ap (λ (s : Shown). s .output) (y .sample refl (suc k) h e) ∙ sample-output (suc k) (x .channel .shown)
-      ∙ ap (λ (u : ℕ). hold (sumFor w c v (suc k)) u) (r k 9 (omega arith) (omega arith) (omega arith))
+  module _ (of : Channel → ℕ) (sums : ℕ → Sum) (o : ℕ) where
+    -- the word t ticks after the trigger, while samples are to come
+    Traced : ℕ → Side → Type 0
+    Traced t x = (k j : ℕ) → GoesOn w c v k → j < 10 → t ≡ d + 10 * k + j → of (x .channel) ≡ latest sums o k
 
-  tick-out : (t : ℕ) (z : List ℕ) (x : Side) → Ticked c v w 1 d t z x → Traced t x → (t + 1 ≡ d → x .channel .shown .output ≡ o)
-      → Traced (t + 1) (act c x (Tick z))
-  unfolding Traced
-  tick-out t z x y r b k zero h g e = sample-out t z x y r b k (omega arith) (omega arith)
-  tick-out t z x y r b k (suc j) h g e =
-      ap (λ (s : Shown). s .output) (y .silent (omega arith) (λ q i u n. omega arith)) ∙ r k j h (omega arith) (omega arith)
+    -- what the tick after t ticks makes of it
+    record Reads (t : ℕ) (now later : Side) : Type 0 where
+      pub made : (k : ℕ) → Plays w c v k → t + 1 ≡ d + 10 * k → of (later .channel) ≡ hold (sums k) (of (now .channel))
+      pub still : d ≤ t + 10 → ((k : ℕ) → Plays w c v k → t + 1 ≡ d + 10 * k → ⊥) → of (later .channel) ≡ of (now .channel)
 
-  same-out : (t : ℕ) (x x′ : Side) → x′ .channel .shown .output ≡ x .channel .shown .output → Traced t x → Traced t x′
-  unfolding Traced
-  same-out t x x′ e y k j h g q = e ∙ y k j h g q
+    -- just after a sample
+    sample-out : (t : ℕ) (x x′ : Side) → Reads t x x′ → Traced t x → (t + 1 ≡ d → of (x .channel) ≡ o)
+        → (k : ℕ) → Plays w c v k → t + 1 ≡ d + 10 * k → of (x′ .channel) ≡ latest sums o k
+    unfolding Traced
+    sample-out t x x′ y r b zero h e = y .made 0 h e ∙ ap (λ (u : ℕ). hold (sums 0) u) (b (omega arith))
+    sample-out t x x′ y r b (suc k) h e =
+        y .made (suc k) h e ∙ ap (λ (u : ℕ). hold (sums (suc k)) u) (r k 9 (plays-goes k h) (omega arith) (omega arith))
 
-  output-out : (t : ℕ) (x : Side) (u : ℕ) → Course c v w 1 d t x → Traced t x → Traced t (act c x (Output u))
-  unfolding Traced
-  output-out t x u (waits n i q p g f) y k j h b s = absurd (omega arith)
-  output-out t x u (starts n q p i g f) y k j h b s = absurd (omega arith)
-  output-out t x u (runs m r a q p i g e f) y k j h b s = written-output c u x _ r f ∙ y k j h b s
-  output-out t x u (rests a q g f) y k j h b s = absurd (omega arith)
-  output-out t x u (off a q g f) y k j h b s = absurd (a refl)
+    tick-out : (t : ℕ) (x x′ : Side) → Reads t x x′ → Traced t x → (t + 1 ≡ d → of (x .channel) ≡ o) → Traced (t + 1) x′
+    unfolding Traced
+    tick-out t x x′ y r b k zero h g e = sample-out t x x′ y r b k (goes-plays k h) (omega arith)
+    tick-out t x x′ y r b k (suc j) h g e = y .still (omega arith) (λ i u n. omega arith) ∙ r k j h (omega arith) (omega arith)
 
-  traced-run : (t : ℕ) (s z : List ℕ) (x : Side) (xs : List Act) → 128 * c + 128 ≤ length (x .tables) → Ahead c v w 1 d t s z xs
-      → ((n : ℕ) → t + suc n ≡ d → run c x (until (suc n) xs) .channel .shown .output ≡ o)
-      → Course c v w 1 d t x → Traced t x → Traced (t + ticksIn xs) (run c x xs)
-  traced-run t s z x [] m a b e y = rw add-zero y
-  traced-run t s z x (Tick u ∷ xs) m a b e y =
-      let k : Ticked c v w 1 d t u x = ticked c v w 1 d t u x m (λ q. a .loads 0 (omega arith)) (λ q. a .enabled 0 (omega arith)) e in
-      rw (add-suc, ← suc-add, ← add-one)
-      (traced-run (t + 1) s z (act c x (Tick u)) xs (rw (act-length c x (Tick u)) m)
-      (record { loads = λ n q. a .loads (suc n) (omega arith); enabled = λ n q. a .enabled (suc n) (omega arith) })
-      (λ n q. b (suc n) (omega arith))
-      (k .course)
-      (tick-out t u x k y (λ q. b 0 (omega arith))))
-  traced-run t s z x (Elsewhere l ∷ xs) m a b e y =
-      traced-run t s z (act c x (Elsewhere l)) xs (rw (act-length c x (Elsewhere l)) m) (record { loads = a .loads; enabled = a .enabled }) b
-      (beside-elsewhere c v w 1 d t x l m e) (same-out t x (act c x (Elsewhere l)) refl y)
-  traced-run t s z x (Output u ∷ xs) m a b e y =
-      traced-run t s z (act c x (Output u)) xs m (record { loads = a .loads; enabled = a .enabled }) b
-      (beside-output c v w 1 d t x u e) (output-out t x u e y)
-  traced-run t s z x (Clear ∷ xs) m a b e y =
-      traced-run t s z (act c x Clear) xs m (record { loads = a .loads; enabled = a .enabled }) b (beside-clear c v w 1 d t x e) (same-out t x (act c x Clear) refl y)
+    same-out : (t : ℕ) (x x′ : Side) → of (x′ .channel) ≡ of (x .channel) → Traced t x → Traced t x′
+    unfolding Traced
+    same-out t x x′ e y k j h g q = e ∙ y k j h g q
 
-module _ (s l : List ℕ) (c : ℕ) (ch : Channel) (v : ℕ) (room : 128 * c + 128 ≤ length l) (xs : List Act) (z : List ℕ)
+    -- an output write is not taken while samples are to come
+    not-taken : (t : ℕ) (x : Side) (u : ℕ) → going (rampOf (x .channel .phase)) ≡ true → Traced t x → Traced t (act c x (Output u))
+    not-taken t x u e y = same-out t x (act c x (Output u)) (ap of (not-written u (x .channel) e)) y
+
+    output-out : (t : ℕ) (x : Side) (u : ℕ) → Course c v w 1 d t x → Traced t x → Traced t (act c x (Output u))
+    unfolding Traced
+    output-out t x u (waits n i q p g f) y k j h b s = absurd (omega arith)
+    output-out t x u (starts n q p i g f) y k j h b s = absurd (omega arith)
+    output-out t x u (runs m r a q p i g e n f) y k j h b s = not-taken t x u (ap (λ (q : Phase). going (rampOf q)) f) y k j h b s
+    output-out t x u (frees m r a z q p i g e n f) y k j h b s = not-taken t x u (ap (λ (q : Phase). going (rampOf q)) f) y k j h b s
+    output-out t x u (rests a e q g f) y k j (inl h) b s = absurd (omega arith)
+    output-out t x u (rests a e q g f) y k j (inr h) b s = absurd (differ (freeFor w c v) h e)
+    output-out t x u (off a q g f) y k j h b s = absurd (a refl)
+
+  -- ---- the amplitude and the output, a and o before the start, u k being the wave tables of sample k
+
+  abbrev amplitude : Channel → ℕ
+  amplitude ch = ch .shown .amplitude
+
+  abbrev output : Channel → ℕ
+  output ch = ch .signal .output
+
+  -- the sums that move the amplitude: after the end's sample it is held
+  abbrev moves : ℕ → Sum
+  moves k = cond (leb k T) (sumFor w c v k) Overflow
+
+  moves-latest : (a k : ℕ) → latest moves a k ≡ amplitudeFor w c v a k
+  moves-latest a zero =
+      let e : 0 ≡ min 0 T = omega arith in
+      rw (le-leb 0 T (omega arith)) (ap (λ (n : ℕ). latest (sumFor w c v) a n) e)
+  moves-latest a (suc k) = go (leb (suc k) T) refl (moves-latest a k)
+    where
+      go : (b : Bool) → leb (suc k) T ≡ b → latest moves a k ≡ amplitudeFor w c v a k
+          → hold (cond b (sumFor w c v (suc k)) Overflow) (latest moves a k) ≡ amplitudeFor w c v a (suc k)
+      go true e r =
+          let p : min k T ≡ k = omega (arith, leb-true) in
+          let q : suc k ≡ min (suc k) T = omega (arith, leb-true) in
+          ap (λ (n : ℕ). hold (sumFor w c v (suc k)) n) (r ∙ ap (λ (n : ℕ). latest (sumFor w c v) a n) p) ∙ ap (λ (n : ℕ). latest (sumFor w c v) a n) q
+      go false e r = let p : min k T ≡ min (suc k) T = omega (arith, leb-false) in r ∙ ap (λ (n : ℕ). latest (sumFor w c v) a n) p
+
+  module _ (u : ℕ → List ℕ) (a o : ℕ) where
+    -- what stands there before the start
+    abbrev Before : Channel → Type 0
+    Before ch = (amplitude ch ≡ a) × (output ch ≡ o)
+
+    -- the two, t ticks after the trigger
+    record Both (t : ℕ) (x : Side) : Type 0 where
+      pub moved : Traced amplitude moves a t x
+      pub made : Traced output (outputSum u w c v a) o t x
+
+    -- a tick under the settings z, with the wave tables q
+    module _ (t : ℕ) (z q : List ℕ) (x : Side) (y : Ticked c v w 1 d t z q x) (r : Both t x) (b : t + 1 ≡ d → Before (x .channel))
+        (waves : (k : ℕ) → t + 1 ≡ d + 10 * k → q ≡ u k) where
+      abbrev later : Side
+      later = act c x (Tick z q)
+
+      amplitude-reads : Reads amplitude moves a t x later
+      amplitude-reads =
+          record {
+            made = λ k h e. go k (leb k T) refl e;
+            still = λ h n. ap (λ (s : Shown). s .amplitude) (y .silent h (λ i k j e. n k (inl j) e));
+          }
+        where
+          go : (k : ℕ) (i : Bool) → leb k T ≡ i → t + 1 ≡ d + 10 * k
+              → later .channel .shown .amplitude ≡ hold (cond i (sumFor w c v k) Overflow) (x .channel .shown .amplitude)
+          go k true g e = ap (λ (s : Shown). s .amplitude) (y .sample refl k (omega (arith, leb-true)) e)
+          go k false g e = ap (λ (s : Shown). s .amplitude) (y .silent (omega arith) (λ i j h p. omega (arith, leb-false)))
+
+      just-amplitude : (k : ℕ) → Plays w c v k → t + 1 ≡ d + 10 * k → later .channel .shown .amplitude ≡ amplitudeFor w c v a k
+      just-amplitude k h e = sample-out amplitude moves a t x later amplitude-reads (r .moved) (λ i. b i .0) k h e ∙ moves-latest a k
+
+      output-reads : Reads output (outputSum u w c v a) o t x later
+      output-reads =
+          record {
+            made = λ k h e.
+                ap (λ (g : Signal). g .output) (y .made refl k h e) ∙ signal-output c v w q (later .channel .shown .amplitude) (x .channel .signal) k
+                ∙ ap (λ (n : Sum). hold n (x .channel .signal .output)) (same-sound c v w k q (u k) _ _ (waves k e) (just-amplitude k h e));
+            still = λ h n. ap (λ (g : Signal). g .output) (y .still h (λ i k j e. n k j e));
+          }
+
+      just-output : (k : ℕ) → Plays w c v k → t + 1 ≡ d + 10 * k → later .channel .signal .output ≡ latest (outputSum u w c v a) o k
+      just-output k h e = sample-out output (outputSum u w c v a) o t x later output-reads (r .made) (λ i. b i .1) k h e
+
+      tick-both : Both (t + 1) later
+      tick-both =
+          record {
+            moved = tick-out amplitude moves a t x later amplitude-reads (r .moved) (λ i. b i .0);
+            made = tick-out output (outputSum u w c v a) o t x later output-reads (r .made) (λ i. b i .1);
+          }
+
+    same-both : (t : ℕ) (x x′ : Side) → amplitude (x′ .channel) ≡ amplitude (x .channel) → output (x′ .channel) ≡ output (x .channel) → Both t x → Both t x′
+    same-both t x x′ e f y =
+        record { moved = same-out amplitude moves a t x x′ e (y .moved); made = same-out output (outputSum u w c v a) o t x x′ f (y .made) }
+
+    -- any acts
+    traced-run : (t : ℕ) (s z q : List ℕ) (x : Side) (xs : List Act) → 128 * c + 128 ≤ length (x .tables) → Ahead c v w 1 d t s z xs
+        → ((n : ℕ) → t + suc n ≡ d → Before (run c x (until (suc n) xs) .channel))
+        → ((n k : ℕ) → t + suc n ≡ d + 10 * k → wavesOn q (suc n) xs ≡ u k)
+        → Course c v w 1 d t x → Both t x → Both (t + ticksIn xs) (run c x xs)
+    traced-run t s z q x [] m h b f e y = rw add-zero y
+    traced-run t s z q x (Tick i j ∷ xs) m h b f e y =
+        let k : Ticked c v w 1 d t i j x = ticked c v w 1 d t i j x m (λ g. h .loads 0 (omega arith)) (λ g. h .enabled 0 (omega arith)) e in
+        rw (add-suc, ← suc-add, ← add-one)
+        (traced-run (t + 1) s z q (act c x (Tick i j)) xs (rw (act-length c x (Tick i j)) m)
+        (record { loads = λ n g. h .loads (suc n) (omega arith); enabled = λ n g. h .enabled (suc n) (omega arith) })
+        (λ n g. b (suc n) (omega arith))
+        (λ n l g. f (suc n) l (omega arith))
+        (k .course)
+        (tick-both t i j x k y (λ g. b 0 (omega arith)) (λ l g. f 0 l (omega arith))))
+    traced-run t s z q x (Elsewhere l ∷ xs) m h b f e y =
+        traced-run t s z q (act c x (Elsewhere l)) xs (rw (act-length c x (Elsewhere l)) m) (record { loads = h .loads; enabled = h .enabled }) b f
+        (beside-elsewhere c v w 1 d t x l m e) (same-both t x (act c x (Elsewhere l)) refl refl y)
+    traced-run t s z q x (Output i ∷ xs) m h b f e y =
+        traced-run t s z q (act c x (Output i)) xs m (record { loads = h .loads; enabled = h .enabled }) b f
+        (beside-output c v w 1 d t x i e)
+        (record { moved = output-out amplitude moves a t x i e (y .moved); made = output-out output (outputSum u w c v a) o t x i e (y .made) })
+    traced-run t s z q x (Clear ∷ xs) m h b f e y =
+        traced-run t s z q (act c x Clear) xs m (record { loads = h .loads; enabled = h .enabled }) b f
+        (beside-clear c v w 1 d t x e) (same-both t x (act c x Clear) refl refl y)
+
+module _ (s l : List ℕ) (c : ℕ) (ch : Channel) (v : ℕ) (room : 128 * c + 128 ≤ length l) (xs : List Act) (z q : List ℕ)
     (on : word (heldOn s z (countdown s c v) xs) (enableAt c) ≡ 1) where
   abbrev d′ : ℕ
   d′ = countdown s c v
@@ -101,39 +200,66 @@ module _ (s l : List ℕ) (c : ℕ) (ch : Channel) (v : ℕ) (room : 128 * c + 1
   abbrev w′ : List ℕ
   w′ = heldOn s z (d′ - 10) xs
 
+  abbrev u′ : ℕ → List ℕ
+  u′ k = wavesOn q (d′ + 10 * k) xs
+
   abbrev now : Side
   now = run c (triggered s l c ch v) xs
 
-  -- the output just before the start
+  -- the channel just before the start
+  abbrev before : Channel
+  before = run c (triggered s l c ch v) (until d′ xs) .channel
+
+  abbrev a′ : ℕ
+  a′ = before .shown .amplitude
+
   abbrev o′ : ℕ
-  o′ = run c (triggered s l c ch v) (until d′ xs) .channel .shown .output
+  o′ = before .signal .output
 
   ahead-on : Ahead c v w′ 1 d′ 0 s z xs
   ahead-on = subst (λ (a : ℕ). Ahead c v w′ a d′ 0 s z xs) on (ahead s l c ch v room xs z)
 
-  tick-on : Ticked c v w′ 1 d′ (ticksIn xs) z now
-  tick-on = subst (λ (a : ℕ). Ticked c v w′ a d′ (ticksIn xs) z now) on (tick-now s l c ch v room xs z)
+  tick-on : Ticked c v w′ 1 d′ (ticksIn xs) z q now
+  tick-on = subst (λ (a : ℕ). Ticked c v w′ a d′ (ticksIn xs) z q now) on (tick-now s l c ch v room xs z q)
 
-  traced : Traced c v w′ d′ o′ (ticksIn xs) now
+  until-start : (ys : List Act) → ys ≡ until d′ xs → Before c v w′ d′ u′ a′ o′ (run c (triggered s l c ch v) ys .channel)
+  until-start ys e = (
+    ap (λ (zs : List Act). run c (triggered s l c ch v) zs .channel .shown .amplitude) e,
+    ap (λ (zs : List Act). run c (triggered s l c ch v) zs .channel .signal .output) e,
+  )
+
+  traced : Both c v w′ d′ u′ a′ o′ (ticksIn xs) now
   unfolding Traced
   traced =
       rw zero-add at
-      (traced-run c v w′ d′ o′ 0 s z (triggered s l c ch v) xs (rw (trigger-length s l c ch v) room) ahead-on
-      (λ n q. let e : d′ ≡ suc n = omega arith in ap (λ (m : ℕ). run c (triggered s l c ch v) (until m xs) .channel .shown .output) (sym e))
+      (traced-run c v w′ d′ u′ a′ o′ 0 s z q (triggered s l c ch v) xs (rw (trigger-length s l c ch v) room) ahead-on
+      (λ n e. let i : suc n ≡ d′ = omega arith in until-start (until (suc n) xs) (ap (λ (m : ℕ). until m xs) i))
+      (λ n k e. let i : suc n ≡ d′ + 10 * k = omega arith in ap (λ (m : ℕ). wavesOn q m xs) i)
       (course-trigger s l c ch v room xs z 1)
-      (λ m j h g e. absurd (omega arith)))
+      (record { moved = λ m j h g e. absurd (omega arith); made = λ m j h g e. absurd (omega arith) }))
 
-  before-start : ticksIn xs + 1 ≡ d′ → now .channel .shown .output ≡ o′
-  before-start q =
-      let e : suc (ticksIn xs) ≡ d′ = omega arith in
-      ap (λ (ys : List Act). run c (triggered s l c ch v) ys .channel .shown .output)
-      (sym (before-all (ticksIn xs) xs (omega arith)) ∙ ap (λ (n : ℕ). until n xs) e)
+  before-start : ticksIn xs + 1 ≡ d′ → Before c v w′ d′ u′ a′ o′ (now .channel)
+  before-start e =
+      let i : suc (ticksIn xs) ≡ d′ = omega arith in
+      until-start xs (sym (before-all (ticksIn xs) xs (omega arith)) ∙ ap (λ (n : ℕ). until n xs) i)
 
-  outputs : Outputs c v d′ w′ o′ (ticksIn xs) now (act c now (Tick z))
+  waves-now : (k : ℕ) → ticksIn xs + 1 ≡ d′ + 10 * k → q ≡ u′ k
+  waves-now k e =
+      let i : suc (ticksIn xs) ≡ d′ + 10 * k = omega arith in
+      sym (waves-next q (ticksIn xs) xs (omega arith)) ∙ ap (λ (n : ℕ). wavesOn q n xs) i
+
+  outputs : Outputs c v d′ w′ u′ a′ o′ (ticksIn xs) now (act c now (Tick z q))
   unfolding Traced
-  outputs = record { between = traced; just = sample-out c v w′ d′ o′ (ticksIn xs) z now tick-on traced before-start }
+  outputs =
+      record {
+        amplitude = λ k j h g e. traced .moved k j h g e ∙ moves-latest c v w′ d′ a′ k;
+        output = traced .made;
+        justAmplitude = just-amplitude c v w′ d′ u′ a′ o′ (ticksIn xs) z q now tick-on traced before-start waves-now;
+        justOutput = just-output c v w′ d′ u′ a′ o′ (ticksIn xs) z q now tick-on traced before-start waves-now;
+      }
 
--- Each output of a ramp is its sample's sum or, where that overflows, the output held just before
+-- Each amplitude of a ramp is its sample's sum or, where that overflows, the amplitude before; each output is the sum, or the sine of the
+-- amplitude, or, where that overflows, the output before
 pub outputs-follow : OutputsFollow
 unfolding OutputsFollow
-outputs-follow s l c ch level room xs z on = outputs s l c ch level room xs z on
+outputs-follow s l c ch level room xs z w on = outputs s l c ch level room xs z w on

@@ -15,7 +15,7 @@ use Rattle.course.specs.Points.{endFrom, endPoint, total, placeFrom, pla
 use Rattle.course.proofs.Walk.{end-63, ends, to-come, total-all}
 
 -- two truths differ
-differ : (b : Bool) → b ≡ true → b ≡ false → ⊥
+pub differ : (b : Bool) → b ≡ true → b ≡ false → ⊥
 differ b p q = let z : _≡_ {A = ℕ} 0 1 = cc in omega arith
 
 module _ (w : List ℕ) (first : ℕ) where

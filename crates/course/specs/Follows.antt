@@ -4,7 +4,7 @@ use mathlib.Core.Path.{_≡_}
 use mathlib.Core.Bool.{Bool, true, false, _&&_, cond}
 use mathlib.Core.Logic.{_⊎_}
 use mathlib.Core.List.{List}
-use Prim.Native.Nat.{ℕ, _+_, _*_, _-_, _%_, _≤_, _<_}
+use Prim.Native.Nat.{ℕ, zero, suc, _+_, _*_, _-_, _%_, _≤_, _<_}
 use lib.Dec.{leb}
 use lib.ListN.{length}
 use Rattle.map.specs.Addresses.{tableAt, enableAt}
@@ -16,7 +16,7 @@ use Rattle.channel.specs.declared.Channel.{Channel}
 use Rattle.channel.specs.declared.Ramp.the-variants.{Still}
 use Rattle.channel.specs.declared.Phase.the-variants.{Rest, Counting, Running, FreeRunning}
 use Rattle.channel.specs.Ramp.{sampleAt, put, way, isSine, freeRuns}
-use Rattle.channel.specs.Signal.{signalAfter, sineAfter, overflows}
+use Rattle.channel.specs.Signal.{signalAfter, counterNext, sineAfter, overflows}
 use Rattle.channel.specs.Channel.{Side, word, firstOf, toneFor, loadedFor, blank, countdown, triggered}
 use Rattle.course.specs.Points.{total, placeOf, SameTable}
 use Rattle.course.specs.Course.{Act, Tick, act, run, ticksIn, heldOn}
@@ -46,7 +46,14 @@ abbrev pub freeFor : List ℕ → ℕ → ℕ → Bool
 freeFor s c level = freeRuns (toneFor s c level .mode)
 
 abbrev pub counterFor : List ℕ → ℕ → ℕ → ℕ → ℕ
-counterFor s c level k = (toneFor s c level .phase + k * toneFor s c level .frequency) % 65536
+counterFor s c level zero = toneFor s c level .phase
+counterFor s c level (suc k) = counterNext (toneFor s c level) (counterFor s c level k)
+
+-- that is said sample by sample; in one go, for a phase of 16 bits, it is this
+unfoldable pub CounterClosed : Type 0
+CounterClosed =
+    (s : List ℕ) (c level k : ℕ) → toneFor s c level .phase < 65536
+    → counterFor s c level k ≡ (toneFor s c level .phase + k * toneFor s c level .frequency) % 65536
 
 -- sample k is given: up to the end's, sample T, and under free run without end
 abbrev pub Plays : List ℕ → ℕ → ℕ → ℕ → Type 0
