@@ -9,11 +9,11 @@ use Rattle.map.specs.declared.Register.{Register}
 use Rattle.map.specs.declared.Register.the-variants as R
 use Rattle.map.specs.Map.{base, regionOf, registerOf}
 use Rattle.slots.specs.Slots.{erased}
-use Rattle.channel.specs.Channel.{runsOf}
+use Rattle.channel.specs.Channel.{runsOf, outputTo, overflowCleared}
 use Rattle.card.specs.Card.{State, state, channelOf, withChannel, withCount}
 use Rattle.card.specs.Trigger.{triggerOf}
 use Rattle.transfer.specs.Transfer.{writable, readable}
-use Rattle.transfer.specs.Word.{effectOf, outputTo, overflowCleared, performOf}
+use Rattle.transfer.specs.Word.{effectOf, performOf}
 use Rattle.history.specs.Numbers.{first, toWrite}
 
 -- the registers that hold a setting, fixed or not
@@ -59,7 +59,7 @@ SettingsAre = (a : ℕ) → isSetting (registerOf a) ≡ readWrite (regionOf a) 
 pub data Does (x : State) (a v : ℕ) (y : State) : Type 0 where
   -- a setting keeps it
   Keeps : isSetting (registerOf a) ≡ true → y ≡ state (x .card) (set (x .settings) a v) (x .tables) → Does x a v y
-  -- A04: the output, while no ramp runs
+  -- A04: the output and the amplitude, while no ramp runs or free-runs
   Outputs : (c : ℕ) → c < 4 → a ≡ base c + 0xA04 → runsOf (channelOf (x .card) c) ≡ false
       → y ≡ state (withChannel (x .card) c (outputTo (channelOf (x .card) c) v)) (x .settings) (x .tables) → Does x a v y
   -- A39 and a level's count: 'any, sets 0'
