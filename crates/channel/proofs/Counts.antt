@@ -12,7 +12,7 @@ use Rattle.channel.specs.declared.Channel.{Channel}
 use Rattle.channel.specs.declared.Ramp.{Ramp}
 use Rattle.channel.specs.declared.Phase.the-variants.{Rest, Counting}
 use Rattle.channel.specs.Ramp.{enter, given, advance}
-use Rattle.channel.specs.Channel.{side, move, quiet, movedOn, with, word, firstOf, rampOf, lead, load, start, countTo, countdown, triggered}
+use Rattle.channel.specs.Channel.{side, move, quiet, movedOn, with, word, firstOf, lead, load, start, countTo, countdown, counting, triggered}
 
 module _ (s l : List ℕ) (c : ℕ) (ch : Channel) where
   -- a start leaves the tables
@@ -47,9 +47,9 @@ module _ (s l : List ℕ) (c : ℕ) (ch : Channel) where
     at-once h = rw (eq-eqb (countdown s c level) lead (omega arith))
 
     pub later : 10 < word s (delayAt c level)
-        → triggered s l c ch level ≡ side (record { phase = Counting (record { 0 = word s (delayAt c level) }) (rampOf (ch .phase)); level = level; loaded = ch .loaded; shown = ch .shown; signal = ch .signal }) l
+        → triggered s l c ch level ≡ side (counting ch level (word s (delayAt c level))) l
     unfolding triggered
     later h =
         let e : countdown s c level ≡ word s (delayAt c level) = omega arith in
         rw (ne-eqb (countdown s c level) lead (λ q. absurd (omega arith)))
-        (ap (λ (d : ℕ). side (record { phase = Counting (record { 0 = d }) (rampOf (ch .phase)); level = level; loaded = ch .loaded; shown = ch .shown; signal = ch .signal }) l) e)
+        (ap (λ (d : ℕ). side (counting ch level d) l) e)

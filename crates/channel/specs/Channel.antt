@@ -201,20 +201,16 @@ tickOf s w l c ch = soundedSide w c (moveOf s l c ch)
 abbrev pub countdown : List ℕ → ℕ → ℕ → ℕ
 countdown s c level = max lead (word s (delayAt c level))
 
--- set at 10 it loads at once; else it counts, with the older ramp still running
+-- it counts from d, with the older ramp or free run still going on
+abbrev pub counting : Channel → ℕ → ℕ → Channel
+counting ch level d = record { phase = Counting (record { 0 = d }) (rampOf (ch .phase)); level = level; loaded = ch .loaded; shown = ch .shown; signal = ch .signal }
+
+-- set at 10 it loads at once
 unfoldable pub triggered : List ℕ → List ℕ → ℕ → Channel → ℕ → Side
 triggered s l c ch level =
     cond (loadsAt (countdown s c level))
     (load s l c ch level)
-    (side
-    (record {
-      phase = Counting (record { 0 = countdown s c level }) (rampOf (ch .phase));
-      level = level;
-      loaded = ch .loaded;
-      shown = ch .shown;
-      signal = ch .signal;
-    })
-    l)
+    (side (counting ch level (countdown s c level)) l)
 
 -- ---- a word done at A04 or at A39
 
