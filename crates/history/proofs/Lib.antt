@@ -20,6 +20,7 @@ pub mod Counted
 pub mod Demand1
 pub mod Counts
 pub mod Triggers
+pub mod Waves
 pub mod Story
 pub mod Countdowns
 pub mod Loads

@@ -23,8 +23,8 @@ use Rattle.card.specs.Card.{State, channelOf}
 use Rattle.card.specs.Reset.{wavesReset, resetOf}
 use Rattle.wavetable.specs.declared.Reply.the-variants.{Taken, Bad, Running}
 use Rattle.wavetable.specs.Hand.{Handed, handed, inWave, allInWave, badTable, handOf}
-use Rattle.history.specs.History.{Act, Tick, Write, Read, HandIn, Reset, act, isReset}
-use Rattle.history.specs.Waves.{GoodTable, HandedIn, WaveTables, wavesAfter, wavesIn, takenFor, tableBy, lastTable, WavesRight}
+use Rattle.history.specs.History.{Act, Tick, Write, Read, HandIn, Reset, act, isReset, ticksIn, until, wavesOn}
+use Rattle.history.specs.Waves.{GoodTable, HandedIn, WaveTables, wavesAfter, wavesIn, LentAsLeft, takenFor, tableBy, lastTable, WavesRight}
 
 -- ---- the words of a table
 
@@ -221,8 +221,19 @@ inside : (s l w : List ℕ) → length w ≡ 4096 → (xs : List Act) (c : ℕ) 
     → InWave (waveAt (wavesIn (resetOf s l) (wavesReset w) xs) c i)
 inside s l w n xs c b i h = rw (last s l w n xs c b i h) (inside-in c (resetOf s l) (wavesReset w) xs (replicate 1024 0) zeros-inside i h)
 
+-- ---- what a tick reads
+
+read : (st : State) (w z : List ℕ) (xs : List Act) → LentAsLeft st w xs → (n : ℕ) → n < ticksIn xs → wavesOn z (suc n) xs ≡ wavesIn st w (until (suc n) xs)
+read st w z [] h n k = absurd (omega arith)
+read st w z (Tick waves event ∷ xs) h zero k = h .0
+read st w z (Tick waves event ∷ xs) h (suc n) k = read (act st (Tick waves event)) w z xs (h .1) n (omega arith)
+read st w z (Write start count ws ∷ xs) h n k = read (act st (Write start count ws)) w z xs h n k
+read st w z (Read start count ws ∷ xs) h n k = read st w z xs h n k
+read st w z (HandIn to ws ∷ xs) h n k = read st (wavesAfter st w (HandIn to ws)) z xs h n k
+read st w z (Reset ∷ xs) h n k = read (act st Reset) (wavesAfter st w Reset) z xs h n k
+
 pub wave-tables : WaveTables
 wave-tables = record { answered = answered; good = good; good-only = good-only }
 
 pub waves-right : WavesRight
-waves-right = record { last = last; inside = inside; kept = kept }
+waves-right = record { last = last; inside = inside; read = read; kept = kept }

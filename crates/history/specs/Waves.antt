@@ -1,9 +1,9 @@
 -- The wave tables in a history: only a table that is taken and a reset write them, every tick reads them as they are then, and a channel that
 -- runs or free-runs keeps its own.
 use mathlib.Core.Path.{_≡_}
-use mathlib.Core.Bool.{Bool, true, false, cond}
+use mathlib.Core.Bool.{true, false, cond}
 use mathlib.Core.List.{List, [], _∷_}
-use Prim.Native.Nat.{ℕ, _+_, _≤_, _<_}
+use Prim.Native.Nat.{ℕ, suc, _+_, _≤_, _<_}
 use lib.Dec.{eqb}
 use lib.ListN.{length, getD, replicate}
 use Rattle.word.specs.Word.{signedOf}
@@ -16,7 +16,7 @@ use Rattle.card.specs.Reset.{wavesReset, resetOf}
 use Rattle.wavetable.specs.declared.Reply.{Reply}
 use Rattle.wavetable.specs.declared.Reply.the-variants.{Taken, Bad, Running}
 use Rattle.wavetable.specs.Hand.{Handed, badTable, handOf, replyNumber}
-use Rattle.history.specs.History.{Act, Tick, Write, Read, HandIn, Reset, act, acts, isReset, Words16}
+use Rattle.history.specs.History.{Act, Tick, Write, Read, HandIn, Reset, act, isReset, ticksIn, until, wavesOn}
 use Rattle.history.specs.Numbers.{case, first}
 
 -- ---- one wave table handed in: 'first 9, for a channel above 3, a wrong length or a word out of range, then 8; neither changes anything'
@@ -90,6 +90,8 @@ pub record WavesRight : Type 0 where
   -- and all its words are in range
   pub inside : (s l w : List ℕ) → length w ≡ 4096 → (xs : List Act) (c : ℕ) → c < 4 → (i : ℕ) → i < entries
       → InWave (waveAt (wavesIn (resetOf s l) (wavesReset w) xs) c i)
+  -- where every tick is lent them as they were left, tick n + 1 reads what the acts before it left
+  pub read : (st : State) (w z : List ℕ) (xs : List Act) → LentAsLeft st w xs → (n : ℕ) → n < ticksIn xs → wavesOn z (suc n) xs ≡ wavesIn st w (until (suc n) xs)
   -- no ramp that runs or free-runs sees its wave table change
   pub kept : (st : State) (w : List ℕ) (x : Act) → isReset x ≡ false → (c : ℕ) → c < 4 → runsOf (channelOf (st .card) c) ≡ true
       → (i : ℕ) → i < entries → getD (wavesAfter st w x) (waveOf c + i) 0 ≡ getD w (waveOf c + i) 0
