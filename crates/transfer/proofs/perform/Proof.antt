@@ -3,10 +3,11 @@ use borrow.Author.Needs.{needs}
 use mathlib.Core.Path.{_≡_, sym, ap, _∙_, subst}
 use Prim.Native.Nat.{ℕ}
 use Rattle.channel.specs.declared.Channel.{Channel}
+use Rattle.channel.specs.Channel.{outputTo, overflowCleared}
 use Rattle.card.specs.Card.{State, state, withChannel}
 use Rattle.card.specs.Trigger.{triggerOf}
 use Rattle.transfer.specs.declared.Effect.{Effect}
-use Rattle.transfer.specs.Word.{outputTo, overflowCleared, performOf, Fits}
+use Rattle.transfer.specs.Word.{performOf, Fits}
 use Rattle.transfer.proofs.perform.Statement.{statement}
 use Rattle.transfer.proofs.perform.Tie as tie
 

@@ -75,13 +75,13 @@ returns c =
     c .get .ensures ∙ sym (alike read (word (a .settings .now) (a .address)) (0 ∷ 1 ∷ 5 ∷ []) (λ v. refl, (λ v. refl, (λ v. refl, tt))) (c .before .before .before .register-at .result) (c .before .before .match .keys1)) ∙ ap read (c .before .before .before .register-at .ensures)
 
 returns-2 : tie.Need-returns-2
-returns-2 c = c .output-of .ensures ∙ ap (λ (x : Channel). x .shown .output) (c .before .channel-of .ensures) ∙ told (c .before .before .before .before .before .before .args .settings .now) (c .before .before .before .before .before .before .args .card) (c .before .before .before .before .before .before .args .address) (c .before .before .before .c .given .1) (c .before .before .before .before .before .register-at .ensures)
+returns-2 c = c .output-of .ensures ∙ ap (λ (x : Channel). x .signal .output) (c .before .channel-of .ensures) ∙ told (c .before .before .before .before .before .before .args .settings .now) (c .before .before .before .before .before .before .args .card) (c .before .before .before .before .before .before .args .address) (c .before .before .before .c .given .1) (c .before .before .before .before .before .register-at .ensures)
 
 returns-3 : tie.Need-returns-3
 returns-3 c = c .status-of .ensures ∙ ap (λ (x : Channel). statusOf x (c .before .before .before .c2 .given .0 .1 .0)) (c .before .channel-of2 .ensures) ∙ told (c .before .before .before .before .before .before .args .settings .now) (c .before .before .before .before .before .before .args .card) (c .before .before .before .before .before .before .args .address) (c .before .before .before .c2 .given .1) (c .before .before .before .before .before .register-at .ensures)
 
 returns-4 : tie.Need-returns-4
-returns-4 c = c .overflow-of .ensures ∙ ap (λ (x : Channel). x .shown .overflow) (c .before .channel-of3 .ensures) ∙ told (c .before .before .before .before .before .before .args .settings .now) (c .before .before .before .before .before .before .args .card) (c .before .before .before .before .before .before .args .address) (c .before .before .before .c3 .given .1) (c .before .before .before .before .before .register-at .ensures)
+returns-4 c = c .overflow-of .ensures ∙ ap (λ (x : Channel). x .signal .overflow) (c .before .channel-of3 .ensures) ∙ told (c .before .before .before .before .before .before .args .settings .now) (c .before .before .before .before .before .before .args .card) (c .before .before .before .before .before .before .args .address) (c .before .before .before .c3 .given .1) (c .before .before .before .before .before .register-at .ensures)
 
 returns-5 : tie.Need-returns-5
 returns-5 c = c .image .ensures ∙ told (c .before .before .before .before .before .before .args .settings .now) (c .before .before .before .before .before .before .args .card) (c .before .before .before .before .before .before .args .address) (c .before .before .before .e .given .1) (c .before .before .before .before .before .register-at .ensures)
