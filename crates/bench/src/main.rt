@@ -26,7 +26,14 @@ fn main() {
     let mut line = [0u8; 16395];
     let mut chunk = io::large_buffer();
     let mut out = io::large_buffer();
-    serve(&mut settings, &mut tables, &mut waves, &mut line, &mut chunk, &mut out);
+    serve(
+        &mut settings,
+        &mut tables,
+        &mut waves,
+        &mut line,
+        &mut chunk,
+        &mut out,
+    );
 }
 
 // The session. Its turns are counted down from a number that no run uses up, since a proved loop has to end. A failed read is tried

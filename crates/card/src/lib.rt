@@ -2,20 +2,16 @@
 use channel::Channel;
 use channel::Loaded;
 use channel::Phase;
-use channel::Place;
-use channel::Shown;
-use channel::Signal;
 use channel::Ticked;
-use channel::Tone;
 use slots::Holder;
-use word::Samples;
 ghost use mathlib.Core.Path.{_≡_};
 ghost use mathlib.Core.Bool.{cond};
+ghost use mathlib.Core.List.{[], _∷_};
 ghost use Rattle.word.specs.Lent.{lent, left};
 ghost use Rattle.card.specs.Card.{before, Leaves, LeavesWhole, LeavesAll, noChannel, channelOf, withChannel, withChannels, countOf, withCount};
 ghost use Rattle.card.specs.Active.{cause, someLoaded, showing};
 ghost use Rattle.card.specs.Trigger.{counted, keeping, struck, triggerOf, acceptedOf, eventOf};
-ghost use Rattle.card.specs.Tick.{moving, making, moved, advanced, tickWith, ticks};
+ghost use Rattle.card.specs.Tick.{moving, making, advanced, tickWith, ticks};
 ghost use Rattle.card.specs.Reset.{settingsReset, wavesReset, cardReset, resetOf};
 
 // What causes a ramp: an accepted trigger's level, and its event, 0xFE if manual.
@@ -41,11 +37,7 @@ pub struct Pass {
 }
 
 // Settings, loaded tables, wave tables and card after a reset.
-pub fn reset(
-    settings: &mut [u16; 16960],
-    tables: &mut [u16; 512],
-    waves: &mut [u16; 4096],
-) -> Card
+pub fn reset(settings: &mut [u16; 16960], tables: &mut [u16; 512], waves: &mut [u16; 4096]) -> Card
     ensures { λ r. ⌜ LeavesWhole (resetOf (lent settings) (lent tables)) r settings tables × (left waves ≡ wavesReset (lent waves)) ⌝ }
 {
     reset_settings(settings);
@@ -182,15 +174,7 @@ fn make_outputs(waves: &[u16; 4096], card: Card, pass: Pass) -> Card
     let b = channel::make_output(waves, 1, one);
     let c = channel::make_output(waves, 2, two);
     let d = channel::make_output(waves, 3, three);
-    let counts = card.counts;
-    let active = card.active;
-    let pending = card.pending;
-    Card {
-        channels: [a, b, c, d],
-        counts: counts,
-        active: active,
-        pending: pending,
-    }
+    with_channels(card, a, b, c, d)
 }
 
 // Every channel's countdown is set anew for a level.
@@ -201,6 +185,13 @@ fn strike(settings: &[u16; 16960], tables: &mut [u16; 512], card: Card, level: u
     let b = channel::trigger(settings, tables, 1, card.channels[1], level);
     let c = channel::trigger(settings, tables, 2, card.channels[2], level);
     let d = channel::trigger(settings, tables, 3, card.channels[3], level);
+    with_channels(card, a, b, c, d)
+}
+
+// The card with four other channels.
+fn with_channels(card: Card, a: Channel, b: Channel, c: Channel, d: Channel) -> Card
+    ensures { λ r. ⌜ r ≡ withChannels card (a ∷ b ∷ c ∷ d ∷ []) ⌝ }
+{
     let counts = card.counts;
     let active = card.active;
     let pending = card.pending;
@@ -317,6 +308,10 @@ fn reset_settings(settings: &mut [u16; 16960])
 fn no_channel() -> Channel
     ensures { λ r. ⌜ r ≡ noChannel ⌝ }
 {
+    let ch = channel::fresh();
+    let tone = ch.loaded.tone;
+    let shown = ch.shown;
+    let signal = ch.signal;
     Channel {
         phase: Phase::Rest,
         level: 0,
@@ -324,24 +319,10 @@ fn no_channel() -> Channel
             table: 0,
             scale: 0,
             offset: 0,
-            tone: Tone {
-                mode: 0,
-                frequency: 0,
-                phase: 0,
-            },
+            tone: tone,
         },
-        shown: Shown {
-            amplitude: 0,
-            place: Place {
-                segment: 0,
-                left: Samples(0),
-            },
-        },
-        signal: Signal {
-            output: 0,
-            overflow: 0,
-            counter: 0,
-        },
+        shown: shown,
+        signal: signal,
     }
 }
 

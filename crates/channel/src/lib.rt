@@ -122,7 +122,10 @@ pub fn make_output(waves: &[u16; 4096], c: u16, t: Ticked) -> Channel
     let a = ch.shown.amplitude;
     match gave {
         Gave::NoSample => ch,
-        Gave::OfRamp(first, sum) => with_signal(ch, ramp_signal(waves, c, first, sum, tone, a, signal)),
+        Gave::OfRamp(first, sum) => with_signal(
+            ch,
+            ramp_signal(waves, c, first, sum, tone, a, signal),
+        ),
         Gave::OfFreeRun => with_signal(ch, free_signal(waves, c, tone, a, signal)),
     }
 }
@@ -429,7 +432,15 @@ fn step(tables: &[u16], c: u16, loaded: Loaded, ramp: Ramp, shown: Shown) -> Mov
             if 1 < wait {
                 return unsampled(Ramp::Going(on_way(p, wait - 1, period)), shown);
             }
-            sample_given(tables, c, false, loaded, period, next_place(tables, c, p), shown)
+            sample_given(
+                tables,
+                c,
+                false,
+                loaded,
+                period,
+                next_place(tables, c, p),
+                shown,
+            )
         }
         Ramp::Free(w) => {
             let p = w.place;
@@ -608,7 +619,11 @@ fn sine_after(
 fn counter_at(first: bool, tone: Tone, n: u16) -> u16
     ensures { λ r. ⌜ r ≡ counterAt first tone n ⌝ }
 {
-    if first { tone.phase } else { counter_next(tone, n) }
+    if first {
+        tone.phase
+    } else {
+        counter_next(tone, n)
+    }
 }
 
 fn counter_next(tone: Tone, n: u16) -> u16

@@ -39,11 +39,7 @@ pub struct Stream {
 }
 
 // The reset card on which a session starts.
-pub fn start(
-    settings: &mut [u16; 16960],
-    tables: &mut [u16; 512],
-    waves: &mut [u16; 4096],
-) -> Card
+pub fn start(settings: &mut [u16; 16960], tables: &mut [u16; 512], waves: &mut [u16; 4096]) -> Card
     ensures { λ r. ⌜ LeavesWhole (resetOf (lent settings) (lent tables)) r settings tables × (left waves ≡ wavesReset (lent waves)) ⌝ }
 {
     card::reset(settings, tables, waves)

@@ -25,7 +25,14 @@ fn main() {
     let mut line = [0u8; 263];
     let mut chunk = io::large_buffer();
     let mut out = io::large_buffer();
-    serve(&mut settings, &mut tables, &mut waves, &mut line, &mut chunk, &mut out);
+    serve(
+        &mut settings,
+        &mut tables,
+        &mut waves,
+        &mut line,
+        &mut chunk,
+        &mut out,
+    );
 }
 
 // The session. A proved loop has to end, and nothing says that the input does: the turns are counted down from a number that no run uses up.

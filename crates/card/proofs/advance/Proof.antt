@@ -19,7 +19,7 @@ show-requires c κs = search needs
 
 returns : tie.Need-returns
 unfolding advanced
-returns c = 
+returns c =
     let a = c .before .before .before .before .args in
     let m = c .before .before .move-ramps .ensures in
     (c .show .ensures ∙ ap showing (c .before .make-outputs .ensures ∙ ap (λ (p : Pass). withChannels (a .card) (making (a .waves .now) p)) (m .0)), m .1)

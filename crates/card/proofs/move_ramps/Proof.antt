@@ -30,7 +30,7 @@ move-ramp-requires-4 : tie.Need-move-ramp-requires-4
 move-ramp-requires-4 c κs = search needs
 
 returns : tie.Need-returns
-returns c = 
+returns c =
     let a = c .before .before .before .before .before .before .before .before .before .before .before .before .args in
     all-moved (state (a .t3) (a .settings .now) (a .tables .now))
     (record { handed = c .before .before .before .before .before .before .before .before .before .move-ramp .ensures .0; tables = c .before .before .before .before .before .before .before .before .before .move-ramp .ensures .1 })

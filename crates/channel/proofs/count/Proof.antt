@@ -18,7 +18,7 @@ same-length : tie.Need-same-length
 same-length c = search needs
 
 returns : tie.Need-returns
-returns c = 
+returns c =
     let a = c .before .before .before .before .before .args in
     let e = at-start (a .settings .now) (a .tables .now) (a .c) (a .ch) (a .older) (a .n .0) (c .before .before .if1 .taken) in
     (c .start-ramp .ensures ∙ ap ticked (sym e), start-tables (a .settings .now) (a .tables .now) (a .c) (a .ch) ∙ ap (λ (x : Move). x .tables) (sym e))
@@ -33,7 +33,7 @@ same-length-2 : tie.Need-same-length-2
 same-length-2 c = search needs
 
 returns-2 : tie.Need-returns-2
-returns-2 c = 
+returns-2 c =
     let a = c .before .before .before .before .before .before .before .before .before .args in
     let e = at-load (a .settings .now) (a .tables .now) (a .c) (a .ch) (a .older) (a .n .0) (c .before .before .before .before .before .if2 .taken) in
     let l = c .before .before .before .load-level .ensures in
@@ -52,7 +52,7 @@ same-length-3 : tie.Need-same-length-3
 same-length-3 c = search needs
 
 returns-3 : tie.Need-returns-3
-returns-3 c = 
+returns-3 c =
     let a = c .before .before .before .before .before .before .before .before .before .before .args in
     let e = on (a .settings .now) (a .tables .now) (a .c) (a .ch) (a .older) (a .n .0) (c .before .before .before .before .before .before .before .if1 .left) (c .before .before .before .before .before .before .if2 .left) in
     (rw (c .in-phase .ensures) (ap (λ (m : Moved). record { channel = with (a .ch) (Counting (record { 0 = a .n .0 - 1 }) (m .ramp)) (m .shown); gave = m .gave }) (c .before .before .step .ensures)) ∙ ap ticked (sym e), ap (λ (x : Move). x .tables) (sym e))

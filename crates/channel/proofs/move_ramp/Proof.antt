@@ -39,28 +39,28 @@ run-requires-2 c κs = search needs
 
 returns : tie.Need-returns
 unfolding moveAt
-returns c = 
+returns c =
     let a = c .before .before .before .args in
     let e = told (a .settings .now) (a .tables .now) (a .c) (a .ch) (c .before .enum-told .given .1) in
     (c .quiet .ensures ∙ ap ticked e, ap (λ (x : Move). x .tables) e)
 
 returns-2 : tie.Need-returns-2
 unfolding moveAt
-returns-2 c = 
+returns-2 c =
     let a = c .before .before .before .before .before .before .args in
     let e = told (a .settings .now) (a .tables .now) (a .c) (a .ch) (c .before .before .before .before .p .given .1) in
     (c .count .ensures .0 ∙ ap ticked e, c .count .ensures .1 ∙ ap (λ (x : Move). x .tables) e)
 
 returns-3 : tie.Need-returns-3
 unfolding moveAt
-returns-3 c = 
+returns-3 c =
     let a = c .before .before .before .before .before .before .args in
     let e = told (a .settings .now) (a .tables .now) (a .c) (a .ch) (c .before .before .before .before .p2 .given .1) in
     (c .run .ensures ∙ ap ticked e, ap (λ (x : Move). x .tables) e)
 
 returns-4 : tie.Need-returns-4
 unfolding moveAt
-returns-4 c = 
+returns-4 c =
     let a = c .before .before .before .before .before .before .args in
     let e = told (a .settings .now) (a .tables .now) (a .c) (a .ch) (c .before .before .before .before .p3 .given .1) in
     (c .run2 .ensures ∙ ap ticked e, ap (λ (x : Move). x .tables) e)

@@ -59,7 +59,7 @@ unsampled-requires-2 : tie.Need-unsampled-requires-2
 unsampled-requires-2 c κs = search needs
 
 returns : tie.Need-returns
-returns c = 
+returns c =
     let a = c .before .before .before .before .before .before .before .before .before .args in
     c .unsampled2 .ensures ∙ ap (λ (x : Way). unsampled (Going x) (a .shown)) (c .before .on-way .ensures)
     ∙ waits (a .tables .now) (firstOf (a .c)) (a .loaded) (a .shown) _ (c .before .before .if1 .taken) ∙ told (a .tables .now) (firstOf (a .c)) (a .loaded) (a .shown) (c .before .before .before .before .before .before .ramp .given .1)
@@ -83,7 +83,7 @@ unsampled-requires-3 : tie.Need-unsampled-requires-3
 unsampled-requires-3 c κs = search needs
 
 returns-2 : tie.Need-returns-2
-returns-2 c = 
+returns-2 c =
     let a = c .before .before .before .before .before .before .before .before .before .args in
     c .unsampled3 .ensures ∙ ap (λ (x : Way). unsampled (Free x) (a .shown)) (c .before .on-way2 .ensures)
     ∙ free-waits (a .tables .now) (firstOf (a .c)) (a .loaded) (a .shown) _ (c .before .before .if2 .taken) ∙ told (a .tables .now) (firstOf (a .c)) (a .loaded) (a .shown) (c .before .before .before .before .before .before .ramp2 .given .1)
@@ -96,14 +96,14 @@ unfolding advance
 returns-3 c = let a = c .before .before .before .before .args in c .unsampled .ensures ∙ told (a .tables .now) (firstOf (a .c)) (a .loaded) (a .shown) (c .before .enum-told .given .1)
 
 returns-4 : tie.Need-returns-4
-returns-4 c = 
+returns-4 c =
     let a = c .before .before .before .before .before .before .before .before .before .args in
     let r : Way = c .before .before .before .before .before .before .ramp .given .0 .0 in
     c .sample-given .ensures ∙ ap (λ (p : Place). given false (a .tables .now) (firstOf (a .c)) (a .loaded) (r .period .0) p (a .shown)) (c .before .next-place .ensures)
     ∙ gives (a .tables .now) (firstOf (a .c)) (a .loaded) (a .shown) _ (c .before .before .if1 .left) ∙ told (a .tables .now) (firstOf (a .c)) (a .loaded) (a .shown) (c .before .before .before .before .before .before .ramp .given .1)
 
 returns-5 : tie.Need-returns-5
-returns-5 c = 
+returns-5 c =
     let a = c .before .before .before .before .before .before .before .before .args in
     ap (λ (x : Way). record { ramp = Free x; shown = a .shown; gave = OfFreeRun }) (c .on-way3 .ensures)
     ∙ free-gives (a .tables .now) (firstOf (a .c)) (a .loaded) (a .shown) _ (c .before .if2 .left) ∙ told (a .tables .now) (firstOf (a .c)) (a .loaded) (a .shown) (c .before .before .before .before .before .ramp2 .given .1)
