@@ -11,17 +11,16 @@ use borrow.Author.Tests.{eq-eqb, ne-eqb, eqb-true, eqb-false, le-leb, leb-true, 
 use Rattle.map.specs.Addresses.{delayAt}
 use Rattle.slots.specs.declared.Holder.{Holder}
 use Rattle.slots.specs.declared.Holder.the-variants.{Level, Nobody}
-use Rattle.channel.specs.Channel.{word, lead, toStart, loadsAt, countdown}
+use Rattle.channel.specs.Channel.{word, lead, toStart, loadsAt, countdown, outputTo, overflowCleared}
 use Rattle.card.specs.declared.Cause.{Cause}
 use Rattle.card.specs.declared.Card.{Card}
 use Rattle.card.specs.Card.{State, channelOf}
 use Rattle.card.specs.Active.{cause}
 use Rattle.card.specs.Tick.{advanced}
 use Rattle.card.specs.Reset.{cardReset, resetOf}
-use Rattle.transfer.specs.Word.{outputTo, overflowCleared}
 use Rattle.transfer.specs.Transfer.{writeOf}
 use Rattle.course.proofs.Copies.{choose}
-use Rattle.history.specs.History.{Act, Tick, Write, Read, Reset, act, acts, wordsDone, manualAmong, triggerBy, isReset, Quiet, ticksIn}
+use Rattle.history.specs.History.{Act, Tick, Write, Read, HandIn, Reset, act, acts, wordsDone, manualAmong, triggerBy, isReset, Quiet, ticksIn}
 use Rattle.history.specs.Effects.{Does, Keeps, Outputs, ClearsOverflow, ClearsCount, Erases, Idles, Triggers}
 use Rattle.history.specs.Triggers.{eventBy}
 use Rattle.history.specs.Story.{byTrigger, inTick, atTrigger}
@@ -59,9 +58,10 @@ write-keeps =
 
 -- what is shown just before an act's trigger
 before-active : (st : State) (x : Act) → justBefore st x .card .active ≡ cond (loadsBefore st x) (st .card .pending) (st .card .active)
-before-active st (Tick event) = advanced-active st
+before-active st (Tick waves event) = advanced-active waves st
 before-active st (Write start count ws) = refl
 before-active st (Read start count ws) = refl
+before-active st (HandIn to ws) = refl
 before-active st Reset = refl
 
 module _ (st : State) (x : Act) (level : ℕ) (e : triggerBy st x ≡ Level level) where
@@ -111,9 +111,10 @@ act-shown st x later =
 
     quiet : (y : Act) → triggerBy st y ≡ Nobody
         → cond later (act st y .card .pending) (act st y .card .active) ≡ activeAfter Nobody y later (cond (loadsBefore st y || later) p a)
-    quiet (Tick event) e = rw (quiet-tick st event e, advanced-pending st, advanced-active st) (or-else later (loadsByCounting st) p a)
+    quiet (Tick waves event) e = rw (quiet-tick waves st event e, advanced-pending waves st, advanced-active waves st) (or-else later (loadsByCounting waves st) p a)
     quiet (Write start count ws) e = still later (act st (Write start count ws) .card) (write-keeps st start count ws e)
     quiet (Read start count ws) e = refl
+    quiet (HandIn to ws) e = refl
     quiet Reset e = choose (λ (x : Cause). x ≡ atReset) later atReset atReset refl refl
 
     go : (h : Holder) → triggerBy st x ≡ h
@@ -151,9 +152,10 @@ quiet-last st [] q old = refl
 quiet-last st (x ∷ xs) q old = quiet-last (act st x) xs (q .1) _ ∙ go x (q .0 .noTrigger) (q .0 .noReset)
   where
     go : (y : Act) → triggerBy st y ≡ Nobody → isReset y ≡ false → activeAfter (triggerBy st y) y (loadsAfter st y xs) old ≡ old
-    go (Tick event) e f = rw e
+    go (Tick waves event) e f = rw e
     go (Write start count ws) e f = rw e
     go (Read start count ws) e f = refl
+    go (HandIn to ws) e f = refl
     go Reset e f = absurd (true≢false f)
 
 module _ (st : State) (x : Act) (level : ℕ) (xs : List Act) (h : LastTrigger st x level xs) where
@@ -207,28 +209,28 @@ record First (st : State) (m : ℕ) : Type 0 where
 same-first : (x y : State) (m : ℕ) → ((c : ℕ) → c < 4 → toStart (channelOf (y .card) c .phase) ≡ toStart (channelOf (x .card) c .phase)) → First x m → First y m
 same-first x y m e f = record { all = λ c h. rw (e c h) (f .all c h); one = f .one; inside = f .inside; at = e (f .one) (f .inside) ∙ f .at }
 
-module _ (st : State) where
+module _ (waves : List ℕ) (st : State) where
   abbrev left : ℕ → ℕ
   left c = toStart (channelOf (st .card) c .phase)
 
-  reached : (c : ℕ) → loadAmong (inTick st c) ≡ loadsAt (left c - 1)
-  reached c = tick-loads (st .settings) (st .tables) c (channelOf (st .card) c) (channelOf (st .card) c .phase)
+  reached : (c : ℕ) → loadAmong (inTick waves st c) ≡ loadsAt (left c - 1)
+  reached c = tick-loads waves (st .settings) (st .tables) c (channelOf (st .card) c) (channelOf (st .card) c .phase)
 
   -- the first load comes on the next tick
-  next-loads : First st 0 → loadsByCounting st ≡ true
-  next-loads f = some-one (λ c. loadAmong (inTick st c)) (f .one) (f .inside) (reached (f .one) ∙ eq-eqb (left (f .one) - 1) lead (omega (arith, f .at)))
+  next-loads : First st 0 → loadsByCounting waves st ≡ true
+  next-loads f = some-one (λ c. loadAmong (inTick waves st c)) (f .one) (f .inside) (reached (f .one) ∙ eq-eqb (left (f .one) - 1) lead (omega (arith, f .at)))
 
   -- or on a later one
-  next-waits : (m : ℕ) → First st (suc m) → loadsByCounting st ≡ false
-  next-waits m f = some-none (λ c. loadAmong (inTick st c)) (λ c h. reached c ∙ ne-eqb (left c - 1) lead (λ e. absurd (omega (arith, f .all c h))))
+  next-waits : (m : ℕ) → First st (suc m) → loadsByCounting waves st ≡ false
+  next-waits m f = some-none (λ c. loadAmong (inTick waves st c)) (λ c h. reached c ∙ ne-eqb (left c - 1) lead (λ e. absurd (omega (arith, f .all c h))))
 
-  next-first : (m : ℕ) → First st (suc m) → First (advanced st) m
+  next-first : (m : ℕ) → First st (suc m) → First (advanced waves st) m
   next-first m f =
       record {
-        all = λ c h. omega (arith, advanced-counts st c h, f .all c h);
+        all = λ c h. omega (arith, advanced-counts waves st c h, f .all c h);
         one = f .one;
         inside = f .inside;
-        at = omega (arith, advanced-counts st (f .one) (f .inside), f .at);
+        at = omega (arith, advanced-counts waves st (f .one) (f .inside), f .at);
       }
 
 -- no trigger, no load at it
@@ -238,11 +240,11 @@ no-trigger st x e = rw e
 -- THE FIRST LOAD COMES ON TICK m + 1
 first-load : (st : State) (xs : List Act) → length (st .card .channels) ≡ 4 → Quiet st xs → (m : ℕ) → First st m → loadsIn st xs ≡ leb (suc m) (ticksIn xs)
 first-load st [] f q m r = sym (leb·suc-zero m)
-first-load st (Tick event ∷ xs) f q zero r = rw (loads-told st (Tick event), next-loads st r) (sym (le-leb 1 (suc (ticksIn xs)) (omega arith)))
-first-load st (Tick event ∷ xs) f q (suc m) r =
-    let e = quiet-tick st event (q .0 .noTrigger) in
-    rw (loads-told st (Tick event), next-waits st m r, no-trigger st (Tick event) (q .0 .noTrigger))
-    (first-load (act st (Tick event)) xs (rw e (advanced-four st)) (q .1) m (subst (λ (z : State). First z m) (sym e) (next-first st m r))
+first-load st (Tick waves event ∷ xs) f q zero r = rw (loads-told st (Tick waves event), next-loads waves st r) (sym (le-leb 1 (suc (ticksIn xs)) (omega arith)))
+first-load st (Tick waves event ∷ xs) f q (suc m) r =
+    let e = quiet-tick waves st event (q .0 .noTrigger) in
+    rw (loads-told st (Tick waves event), next-waits waves st m r, no-trigger st (Tick waves event) (q .0 .noTrigger))
+    (first-load (act st (Tick waves event)) xs (rw e (advanced-four waves st)) (q .1) m (subst (λ (z : State). First z m) (sym e) (next-first waves st m r))
     ∙ sym (leb·suc-suc (suc m) (ticksIn xs)))
 first-load st (Write start count ws ∷ xs) f q m r =
     let e = q .0 .noTrigger in
@@ -250,6 +252,7 @@ first-load st (Write start count ws ∷ xs) f q m r =
     (first-load (act st (Write start count ws)) xs (write-part 0 (omega arith) st start count ws f e .settled) (q .1) m
     (same-first st (act st (Write start count ws)) m (λ c h. ap toStart (part-keeps c st _ (write-part c h st start count ws f e) .phase)) r))
 first-load st (Read start count ws ∷ xs) f q m r = first-load st xs f (q .1) m r
+first-load st (HandIn to ws ∷ xs) f q m r = first-load st xs f (q .1) m r
 first-load st (Reset ∷ xs) f q m r = absurd (true≢false (q .0 .noReset))
 
 -- one of the four delays is the shortest

@@ -47,7 +47,7 @@ channel-sits : All (SitsBy base (λ c. c < 4)) channelRows
 unfolding channelRows
 channel-sits = (
   (λ c o i f. setting 128 (point) c o (base c + (0x000 + o))),
-  ((λ c o i f. setting 0 (λ n. S.RampMap) c o (base c + (0x800 + o))), ((λ c o i f. setting 0 (λ n. S.ScaleMap) c o (base c + (0x840 + o))), ((λ c o i f. setting 1 (λ n. S.Scale) c o (base c + (0x860 + o))), ((λ c o i f. setting 0 (λ n. S.OffsetMap) c o (base c + (0x880 + o))), ((λ c o i f. setting 1 (λ n. S.Offset) c o (base c + (0x8A0 + o))), ((λ c o i f. setting 0 (λ n. S.Delay) c o (base c + (0x8E0 + o))), ((λ c o i f. setting 0 (λ n. S.WaveformEnable) c o (base c + (0xA00 + o))), ((λ c o i f. (i, omega arith)), ((λ c o i f. tt), ((λ c o i f. tt), ((λ c o i f. tt), ((λ c o i f. tt), ((λ c o i f. tt), ((λ c o i f. (i, omega arith)), tt)))))))))))))),
+  ((λ c o i f. setting 0 (λ n. S.RampMap) c o (base c + (0x800 + o))), ((λ c o i f. setting 0 (λ n. S.ScaleMap) c o (base c + (0x840 + o))), ((λ c o i f. setting 1 (λ n. S.Scale) c o (base c + (0x860 + o))), ((λ c o i f. setting 0 (λ n. S.OffsetMap) c o (base c + (0x880 + o))), ((λ c o i f. setting 1 (λ n. S.Offset) c o (base c + (0x8A0 + o))), ((λ c o i f. setting 0 (λ n. S.Delay) c o (base c + (0x8E0 + o))), ((λ c o i f. setting 0 (λ n. S.FrequencyMap) c o (base c + (0x900 + o))), ((λ c o i f. setting 0 (λ n. S.Frequency) c o (base c + (0x920 + o))), ((λ c o i f. setting 0 (λ n. S.PhaseMap) c o (base c + (0x940 + o))), ((λ c o i f. setting 0 (λ n. S.Phase) c o (base c + (0x960 + o))), ((λ c o i f. setting 0 (λ n. S.WaveformEnable) c o (base c + (0xA00 + o))), ((λ c o i f. setting 0 (λ n. S.WaveformMode) c o (base c + (0xA01 + o))), ((λ c o i f. (i, omega arith)), ((λ c o i f. tt), ((λ c o i f. tt), ((λ c o i f. tt), ((λ c o i f. tt), ((λ c o i f. tt), ((λ c o i f. (i, omega arith)), tt))))))))))))))))))),
 )
 
 card-sits : All (SitsBy (λ c. 0) (λ c. Unit)) cardRows
@@ -99,31 +99,31 @@ card-row a k h n f g = rw (in-card a h) (sym (in-row-k (a / 0x1000) cardRows car
 module _ (c : ℕ) (inside : c < 4) where
   pub output-register : registerOf (base c + 0xA04) ≡ R.Output c
   unfolding channelRows
-  output-register = channel-row c 0xA04 8 inside (omega arith) (omega arith) (omega arith) (omega arith)
+  output-register = channel-row c 0xA04 13 inside (omega arith) (omega arith) (omega arith) (omega arith)
 
   pub table-register : registerOf (base c + 0xA30) ≡ R.Status c F.Table
   unfolding channelRows
-  table-register = channel-row c 0xA30 9 inside (omega arith) (omega arith) (omega arith) (omega arith)
+  table-register = channel-row c 0xA30 14 inside (omega arith) (omega arith) (omega arith) (omega arith)
 
   pub scale-register : registerOf (base c + 0xA31) ≡ R.Status c F.Scale
   unfolding channelRows
-  scale-register = channel-row c 0xA31 10 inside (omega arith) (omega arith) (omega arith) (omega arith)
+  scale-register = channel-row c 0xA31 15 inside (omega arith) (omega arith) (omega arith) (omega arith)
 
   pub offset-register : registerOf (base c + 0xA32) ≡ R.Status c F.Offset
   unfolding channelRows
-  offset-register = channel-row c 0xA32 11 inside (omega arith) (omega arith) (omega arith) (omega arith)
+  offset-register = channel-row c 0xA32 16 inside (omega arith) (omega arith) (omega arith) (omega arith)
 
   pub segment-register : registerOf (base c + 0xA33) ≡ R.Status c F.Segment
   unfolding channelRows
-  segment-register = channel-row c 0xA33 12 inside (omega arith) (omega arith) (omega arith) (omega arith)
+  segment-register = channel-row c 0xA33 17 inside (omega arith) (omega arith) (omega arith) (omega arith)
 
   pub left-register : registerOf (base c + 0xA34) ≡ R.Status c F.Left
   unfolding channelRows
-  left-register = channel-row c 0xA34 13 inside (omega arith) (omega arith) (omega arith) (omega arith)
+  left-register = channel-row c 0xA34 18 inside (omega arith) (omega arith) (omega arith) (omega arith)
 
   pub overflow-register : registerOf (base c + 0xA39) ≡ R.Overflow c
   unfolding channelRows
-  overflow-register = channel-row c 0xA39 14 inside (omega arith) (omega arith) (omega arith) (omega arith)
+  overflow-register = channel-row c 0xA39 19 inside (omega arith) (omega arith) (omega arith) (omega arith)
 
 -- a slot's register names its level
 pub slot-register : (a : ℕ) → 0x4000 ≤ a → a < 0x4100 → registerOf a ≡ R.Slot ((a - 0x4000) / 8)

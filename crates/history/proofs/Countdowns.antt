@@ -1,39 +1,40 @@
--- Every accepted trigger sets every countdown anew (`countdowns-set`), and until the load an older ramp goes on as if no trigger had come
--- (`older-goes-on`). Assumes nothing.
+-- Every accepted trigger sets every countdown anew (`countdowns-set`), and until the load an older ramp, or an older free run, goes on as if
+-- no trigger had come (`older-goes-on`). Assumes nothing.
 use mathlib.Core.Path.{_≡_, refl, sym, ap, _∙_}
-use mathlib.Core.Bool.{Bool, true, false, cond}
+use mathlib.Core.Bool.{Bool, true, false, cond, true≢false}
 use mathlib.Core.List.{List}
 use Prim.Native.Nat.{ℕ, _+_, _*_, _-_, _≤_, _<_}
 use native.Mathlib.Omega.{arith}
 use lib.ListN.{length}
 use borrow.Author.Tests.{ne-eqb, eqb-true}
 use Rattle.slots.specs.declared.Holder.the-variants.{Level, Nobody}
-use Rattle.channel.specs.declared.Way.{Way}
 use Rattle.channel.specs.declared.Moved.{Moved}
 use Rattle.channel.specs.declared.Shown.{Shown}
 use Rattle.channel.specs.declared.Loaded.{Loaded}
 use Rattle.channel.specs.declared.Ramp.{Ramp}
-use Rattle.channel.specs.declared.Ramp.the-variants.{Still, Going}
+use Rattle.channel.specs.declared.Ramp.the-variants.{Still, Going, Free}
 use Rattle.channel.specs.declared.Phase.{Phase}
-use Rattle.channel.specs.declared.Phase.the-variants.{Rest, Counting, Running}
+use Rattle.channel.specs.declared.Phase.the-variants.{Rest, Counting, Running, FreeRunning}
 use Rattle.channel.specs.declared.Channel.{Channel}
 use Rattle.channel.specs.Ramp.{next, given, advance}
-use Rattle.channel.specs.Channel.{Side, side, word, firstOf, lead, toStart, loadsAt, load, rampOf, phaseOf, countTo, tickAt, tickOf, countdown, triggered}
+use Rattle.channel.specs.Signal.{makeOf}
+use Rattle.channel.specs.Channel.{Side, side, movedOn, word, firstOf, lead, toStart, loadsAt, load, rampOf, phaseOf, going, countTo, moveAt, moveOf, soundedSide, tickOf, countdown, triggered}
 use Rattle.card.specs.declared.Card.{Card}
-use Rattle.card.specs.Card.{State, channelOf, onAll}
+use Rattle.card.specs.Card.{State, All, channelOf, onAll}
 use Rattle.card.specs.Trigger.{triggerOf}
 use Rattle.card.specs.Tick.{advanced}
+use Rattle.card.proofs.All.{two-passes}
 use Rattle.course.specs.Points.{SameTable}
 use Rattle.course.specs.Course as C
 use Rattle.course.proofs.Acts.{tick-elsewhere, trigger-elsewhere, run-length, untimed-table}
-use Rattle.course.proofs.Tables.{same-next, same-give}
+use Rattle.course.proofs.Tables.{same-next, same-sample}
 use Rattle.course.proofs.Walk.{placed-next}
 use Rattle.history.specs.History.{Act, Write, act, triggerBy}
 use Rattle.history.specs.Sound.{Sound, RampSound}
 use Rattle.history.specs.Triggers.{eventBy}
 use Rattle.history.specs.Countdowns.{justBefore, CountdownsSet, RampKept, stepped, GoesOn, OlderGoesOn}
 use Rattle.history.specs.Demand3.{sideAt}
-use Rattle.history.proofs.Channels.{ramp-sound}
+use Rattle.history.proofs.Channels.{ramp-sound, ramp-phase}
 use Rattle.history.proofs.Turns.{Turn}
 use Rattle.history.proofs.Parts.{write-part, part-keeps}
 use Rattle.history.proofs.Tracks.{TickTurn, tick-turn, tick-same, TriggerTurn, trigger-turn, trigger-same, trigger-is, struck-settings, before-room}
@@ -45,7 +46,7 @@ unfolding triggered load
 triggered-counts s l c ch level = go (loadsAt (countdown s c level)) refl
   where
     counting : Side
-    counting = side (record { phase = Counting (record { 0 = countdown s c level }) (rampOf (ch .phase)); level = level; loaded = ch .loaded; shown = ch .shown }) l
+    counting = side (record { phase = Counting (record { 0 = countdown s c level }) (rampOf (ch .phase)); level = level; loaded = ch .loaded; shown = ch .shown; signal = ch .signal }) l
 
     go : (b : Bool) → loadsAt (countdown s c level) ≡ b → toStart (cond b (load s l c ch level) counting .channel .phase) ≡ countdown s c level
     go true e = sym (eqb-true (countdown s c level) lead e)
@@ -95,12 +96,13 @@ record Left (l : List ℕ) (ch : Channel) (x : Side) : Type 0 where
   ramp : rampOf (x .channel .phase) ≡ rampOf (ch .phase)
   loaded : x .channel .loaded ≡ ch .loaded
   shown : x .channel .shown ≡ ch .shown
+  signal : x .channel .signal ≡ ch .signal
   tables : x .tables ≡ l
 
 later-leaves : (s l : List ℕ) (c : ℕ) (ch : Channel) (level : ℕ) → lead < countdown s c level → Left l ch (triggered s l c ch level)
 unfolding triggered
 later-leaves s l c ch level h =
-    rw (ne-eqb (countdown s c level) lead (λ d. absurd (omega arith))) (record { ramp = refl; loaded = refl; shown = refl; tables = refl })
+    rw (ne-eqb (countdown s c level) lead (λ d. absurd (omega arith))) (record { ramp = refl; loaded = refl; shown = refl; signal = refl; tables = refl })
 
 module _ (st : State) (x : Act) (level : ℕ) (e : triggerBy st x ≡ Level level) (c : ℕ) (h : c < 4) (far : lead < countdown (act st x .settings) c level) where
   abbrev k : State
@@ -119,16 +121,24 @@ module _ (st : State) (x : Act) (level : ℕ) (e : triggerBy st x ≡ Level leve
       ∙ turn-table (λ b l ch. triggered (k .settings) l b ch level) (λ b d l ch o. trigger-elsewhere (k .settings) l b d ch o level) (k .card) (k .tables) c y
       (leaves .tables) (omega (arith, before-room st x)) i g
 
+  -- what it leaves of the channel, it leaves of the card's
+  trigger-leaves : {A : Type 0} (of : Channel → A) → of (triggered (k .settings) (y .mid) c (channelOf (k .card) c) level .channel) ≡ of (channelOf (k .card) c)
+      → of (channelOf (act st x .card) c) ≡ of (channelOf (k .card) c)
+  trigger-leaves of f = ap of (struck-channel st x level e c h) ∙ f
+
   trigger-keeps : 512 ≤ length (st .tables) → RampKept c k (act st x)
   trigger-keeps room =
       record {
-        ramp = ap (λ (ch : Channel). rampOf (ch .phase)) (struck-channel st x level e c h) ∙ leaves .ramp;
-        loaded = ap (λ (ch : Channel). ch .loaded) (struck-channel st x level e c h) ∙ leaves .loaded;
+        ramp = trigger-leaves (λ (ch : Channel). rampOf (ch .phase)) (leaves .ramp);
+        loaded = trigger-leaves (λ (ch : Channel). ch .loaded) (leaves .loaded);
         table = trigger-table room;
       }
 
   trigger-shows : channelOf (act st x .card) c .shown ≡ channelOf (k .card) c .shown
-  trigger-shows = ap (λ (ch : Channel). ch .shown) (struck-channel st x level e c h) ∙ leaves .shown
+  trigger-shows = trigger-leaves (λ (ch : Channel). ch .shown) (leaves .shown)
+
+  trigger-sounds : channelOf (act st x .card) c .signal ≡ channelOf (k .card) c .signal
+  trigger-sounds = trigger-leaves (λ (ch : Channel). ch .signal) (leaves .signal)
 
 -- ---- a tick
 
@@ -139,61 +149,80 @@ module _ (l m : List ℕ) (c : ℕ) (same : SameTable m (firstOf c) l (firstOf c
   same-advance (Going r) h =
       rw (
         same-next m (firstOf c) l (firstOf c) same (r .place) (h .inner),
-        same-give m (firstOf c) l (firstOf c) same ld (next l (firstOf c) (r .place)) s (placed-next l (firstOf c) (r .place) (h .inner)),
+        same-sample m (firstOf c) l (firstOf c) same ld (next l (firstOf c) (r .place)) (placed-next l (firstOf c) (r .place) (h .inner)),
       )
+  same-advance (Free r) h = refl
 
-ramp-phase : (r : Ramp) → rampOf (phaseOf r) ≡ r
-ramp-phase Still = refl
-ramp-phase (Going r) = refl
+-- what one tick makes of a channel's ramp and of its value, over the tables l
+abbrev step : List ℕ → ℕ → Channel → Moved
+step l c ch = advance l (firstOf c) (ch .loaded) (rampOf (ch .phase)) (ch .shown)
 
--- a channel's tick that is no load and no start
-record Moves (l : List ℕ) (c : ℕ) (ch : Channel) (x : Side) : Type 0 where
-  ramp : rampOf (x .channel .phase) ≡ advance l (firstOf c) (ch .loaded) (rampOf (ch .phase)) (ch .shown) .ramp
-  shown : x .channel .shown ≡ advance l (firstOf c) (ch .loaded) (rampOf (ch .phase)) (ch .shown) .shown
+-- a channel's tick that is no load and no start, with the wave tables w
+record Moves (w l : List ℕ) (c : ℕ) (ch : Channel) (x : Side) : Type 0 where
+  ramp : rampOf (x .channel .phase) ≡ step l c ch .ramp
+  shown : x .channel .shown ≡ step l c ch .shown
+  signal : x .channel .signal ≡ makeOf w c (step l c ch .gave) (ch .loaded .tone) (step l c ch .shown .amplitude) (ch .signal)
   loaded : x .channel .loaded ≡ ch .loaded
   tables : x .tables ≡ l
 
-counting-moves : (s l : List ℕ) (c : ℕ) (ch : Channel) (p : Phase) → ch .phase ≡ p → 11 < toStart p → Moves l c ch (tickAt p s l c ch)
-unfolding tickAt countTo
-counting-moves s l c ch (Counting n older) e h =
-    rw (ne-eqb (n .0 - 1) 0 (λ d. absurd (omega arith)), ne-eqb (n .0 - 1) lead (λ d. absurd (omega arith)))
-    (record { ramp = rw e; shown = rw e; loaded = refl; tables = refl })
-counting-moves s l c ch Rest e h = absurd (omega arith)
-counting-moves s l c ch (Running r) e h = absurd (omega arith)
+module _ (w s l : List ℕ) (c : ℕ) (ch : Channel) where
+  -- with a countdown beside it
+  counting-moves : (p : Phase) → ch .phase ≡ p → 11 < toStart p → Moves w l c ch (soundedSide w c (moveAt p s l c ch))
+  unfolding moveAt countTo
+  counting-moves (Counting n older) e h =
+      rw (ne-eqb (n .0 - 1) 0 (λ d. absurd (omega arith)), ne-eqb (n .0 - 1) lead (λ d. absurd (omega arith)))
+      (record { ramp = rw e; shown = rw e; signal = rw e; loaded = refl; tables = refl })
+  counting-moves Rest e h = absurd (omega arith)
+  counting-moves (Running r) e h = absurd (omega arith)
+  counting-moves (FreeRunning r) e h = absurd (omega arith)
 
-running-moves : (s l : List ℕ) (c : ℕ) (ch : Channel) (r : Way) (q : Phase) → ch .phase ≡ q → q ≡ Running r → Moves l c ch (tickAt q s l c ch)
-unfolding tickAt
-running-moves s l c ch r (Running w) e f = record { ramp = rw e (ramp-phase _); shown = rw e; loaded = refl; tables = refl }
-running-moves s l c ch r Rest e f = let z : _≡_ {A = ℕ} 0 1 = cc in absurd (omega arith)
-running-moves s l c ch r (Counting n older) e f = let z : _≡_ {A = ℕ} 0 1 = cc in absurd (omega arith)
+  -- with none
+  on-moves : (r : Ramp) → rampOf (ch .phase) ≡ r → Moves w l c ch (soundedSide w c (movedOn ch l (advance l (firstOf c) (ch .loaded) r (ch .shown))))
+  on-moves r e = record { ramp = rw e (ramp-phase _); shown = rw e; signal = rw e; loaded = refl; tables = refl }
 
-module _ (st : State) (h : Sound st) (c : ℕ) (inside : c < 4) where
+  going-moves : (r : Ramp) → going r ≡ true → (p : Phase) → ch .phase ≡ p → p ≡ phaseOf r → Moves w l c ch (soundedSide w c (moveAt p s l c ch))
+  unfolding moveAt
+  going-moves Still g p e f = absurd (true≢false (sym g))
+  going-moves (Going v) g p e f = rw f (on-moves (Going v) (ap rampOf (e ∙ f)))
+  going-moves (Free v) g p e f = rw f (on-moves (Free v) (ap rampOf (e ∙ f)))
+
+module _ (waves : List ℕ) (st : State) (h : Sound st) (c : ℕ) (inside : c < 4) where
   abbrev ch : Channel
   ch = channelOf (st .card) c
 
-  abbrev turn : TickTurn st c
-  turn = tick-turn st c inside
+  abbrev turn : TickTurn waves st c
+  turn = tick-turn waves st c inside
 
-  tick-table : tickOf (st .settings) (turn .mid) c ch .tables ≡ turn .mid → SameTable (advanced st .tables) (firstOf c) (st .tables) (firstOf c)
+  tick-table : tickOf (st .settings) waves (turn .mid) c ch .tables ≡ turn .mid → SameTable (advanced waves st .tables) (firstOf c) (st .tables) (firstOf c)
   unfolding advanced
-  tick-table e =
-      turn-table (λ b l ch. tickOf (st .settings) l b ch) (λ b d l ch o. tick-elsewhere (st .settings) l b d ch o) (st .card) (st .tables) c turn e
-      (omega (arith, h .tables .many))
+  tick-table e i g =
+      ap (λ (x : All). word (x .tables) (firstOf c + i)) (two-passes waves st)
+      ∙ turn-table (λ b l ch. tickOf (st .settings) waves l b ch) (λ b d l ch o. tick-elsewhere (st .settings) l b d ch o waves) (st .card) (st .tables) c turn e
+      (omega (arith, h .tables .many)) i g
 
-  goes : Moves (turn .mid) c ch (tickOf (st .settings) (turn .mid) c ch) → GoesOn c st (advanced st)
+  goes : Moves waves (turn .mid) c ch (soundedSide waves c (moveOf (st .settings) (turn .mid) c ch)) → GoesOn waves c st (advanced waves st)
+  unfolding tickOf
   goes m =
       record {
-        ramp = ap (λ (x : Channel). rampOf (x .phase)) (sym (tick-same st c turn)) ∙ m .ramp ∙ ap (λ (x : Moved). x .ramp) e;
-        shown = ap (λ (x : Channel). x .shown) (sym (tick-same st c turn)) ∙ m .shown ∙ ap (λ (x : Moved). x .shown) e;
-        loaded = ap (λ (x : Channel). x .loaded) (sym (tick-same st c turn)) ∙ m .loaded;
+        ramp = ap (λ (x : Channel). rampOf (x .phase)) (sym (tick-same waves st c turn)) ∙ m .ramp ∙ ap (λ (x : Moved). x .ramp) e;
+        shown = ap (λ (x : Channel). x .shown) (sym (tick-same waves st c turn)) ∙ m .shown ∙ ap (λ (x : Moved). x .shown) e;
+        signal =
+            ap (λ (x : Channel). x .signal) (sym (tick-same waves st c turn))
+            ∙ m .signal
+            ∙ ap (λ (x : Moved). makeOf waves c (x .gave) (ch .loaded .tone) (x .shown .amplitude) (ch .signal)) e;
+        loaded = ap (λ (x : Channel). x .loaded) (sym (tick-same waves st c turn)) ∙ m .loaded;
         table = tick-table (m .tables);
       }
     where
       same : SameTable (turn .mid) (firstOf c) (st .tables) (firstOf c)
       same = rw (turn .comes) at (untimed-table c (side ch (st .tables)) (turn .before) (turn .none) (omega (arith, h .tables .many)))
 
-      e : advance (turn .mid) (firstOf c) (ch .loaded) (rampOf (ch .phase)) (ch .shown) ≡ stepped c st
+      e : step (turn .mid) c ch ≡ stepped c st
       e = same-advance (st .tables) (turn .mid) c same (ch .loaded) (ch .shown) (rampOf (ch .phase)) (ramp-sound (ch .phase) (h .card .channels c .phase))
+
+  -- a ramp, and a free run, with no countdown beside it
+  goes-alone : (r : Ramp) → going r ≡ true → ch .phase ≡ phaseOf r → GoesOn waves c st (advanced waves st)
+  goes-alone r g f = goes (going-moves waves (st .settings) (turn .mid) c ch r g (ch .phase) refl f)
 
 -- ---- a write
 
@@ -213,8 +242,10 @@ pub older-goes-on : OlderGoesOn
 older-goes-on =
     record {
       trigger = λ st h x level e c i f. trigger-keeps st x level e c i f (omega (arith, h .tables .many));
-      shown = λ st x level e c i f. trigger-shows st x level e c i f;
-      counting = λ st h c i f. goes st h c i (counting-moves (st .settings) _ c (channelOf (st .card) c) (channelOf (st .card) c .phase) refl f);
-      running = λ st h c i r f. goes st h c i (running-moves (st .settings) _ c (channelOf (st .card) c) r (channelOf (st .card) c .phase) refl f);
+      shown = trigger-shows;
+      signal = trigger-sounds;
+      counting = λ w st h c i f. goes w st h c i (counting-moves w (st .settings) _ c (channelOf (st .card) c) (channelOf (st .card) c .phase) refl f);
+      running = λ w st h c i r f. goes-alone w st h c i (Going r) refl f;
+      free = λ w st h c i r f. goes-alone w st h c i (Free r) refl f;
       write = write-keeps-ramp;
     }

@@ -13,14 +13,14 @@ use Rattle.word.specs.Word.{grown}
 use Rattle.map.specs.Map.{registerOf}
 use Rattle.slots.specs.declared.Holder.{Holder}
 use Rattle.slots.specs.declared.Holder.the-variants.{Level, Nobody}
+use Rattle.channel.specs.Channel.{outputTo, overflowCleared}
 use Rattle.card.specs.declared.Card.{Card}
 use Rattle.card.specs.Card.{State, state, channelOf, countOf, withCount, withChannels}
 use Rattle.card.specs.Trigger.{struck, triggerOf, acceptedOf, onEvent}
 use Rattle.card.specs.Tick.{advanced}
 use Rattle.card.specs.Reset.{cardReset, resetOf}
-use Rattle.transfer.specs.Word.{outputTo, overflowCleared}
 use Rattle.transfer.specs.Transfer.{writeOf}
-use Rattle.history.specs.History.{Act, Tick, Write, Read, Reset, act, acts, wordsDone, manualAmong, triggerBy}
+use Rattle.history.specs.History.{Act, Tick, Write, Read, HandIn, Reset, act, acts, wordsDone, manualAmong, triggerBy}
 use Rattle.history.specs.Effects.{isSetting, Does, Keeps, Outputs, ClearsOverflow, ClearsCount, Erases, Idles, Triggers}
 use Rattle.history.specs.Counts.{doesAt, clears, tally, triggersSince, CountsRight}
 use Rattle.history.proofs.Addresses.{count-register}
@@ -117,17 +117,17 @@ module _ (level : ℕ) (inside : level < 32) where
       go true = rw (h .is) (omega arith)
       go false = h .is
 
-  advanced-right : (st : State) (n : ℕ) → Right st n → Right (advanced st) n
+  advanced-right : (waves : List ℕ) (st : State) (n : ℕ) → Right st n → Right (advanced waves st) n
   unfolding advanced
-  advanced-right st n h = record { many = h .many; is = h .is }
+  advanced-right waves st n h = record { many = h .many; is = h .is }
 
-  tick-right : (st : State) (event n : ℕ) → Right st n → Right (act st (Tick event)) (tally (triggerBy st (Tick event)) false level n)
+  tick-right : (waves : List ℕ) (st : State) (event n : ℕ) → Right st n → Right (act st (Tick waves event)) (tally (triggerBy st (Tick waves event)) false level n)
   unfolding advanced
-  tick-right st event n h = go (acceptedOf (st .settings) event)
+  tick-right waves st event n h = go (acceptedOf (st .settings) event)
     where
-      go : (r : Holder) → Right (onEvent r (advanced st) event) (tally r false level n)
-      go (Level l) = struck-right (advanced st) l event n (advanced-right st n h)
-      go Nobody = advanced-right st n h
+      go : (r : Holder) → Right (onEvent r (advanced waves st) event) (tally r false level n)
+      go (Level l) = struck-right (advanced waves st) l event n (advanced-right waves st n h)
+      go Nobody = advanced-right waves st n h
 
   write-right : (st : State) (start count : ℕ) (ws : List ℕ) (n : ℕ) → Right st n
       → Right (act st (Write start count ws)) (tally (triggerBy st (Write start count ws)) (clears st level (Write start count ws)) level n)
@@ -147,9 +147,10 @@ module _ (level : ℕ) (inside : level < 32) where
 
   acts-right : (st : State) (xs : List Act) (n : ℕ) → Right st n → Right (acts st xs) (triggersSince level st xs n)
   acts-right st [] n h = h
-  acts-right st (Tick event ∷ xs) n h = acts-right (act st (Tick event)) xs _ (tick-right st event n h)
+  acts-right st (Tick waves event ∷ xs) n h = acts-right (act st (Tick waves event)) xs _ (tick-right waves st event n h)
   acts-right st (Write start count ws ∷ xs) n h = acts-right (act st (Write start count ws)) xs _ (write-right st start count ws n h)
   acts-right st (Read start count ws ∷ xs) n h = acts-right st xs n h
+  acts-right st (HandIn to ws ∷ xs) n h = acts-right st xs n h
   acts-right st (Reset ∷ xs) n h = acts-right (act st Reset) xs 0 (reset-right (st .settings) (st .tables))
 
 -- A LEVEL'S COUNT IS THE NUMBER OF ITS ACCEPTED TRIGGERS SINCE ITS LAST CLEARING

@@ -15,6 +15,7 @@ use Rattle.history.specs.Demand1.{HeldElsewhere, Demand1}
 use Rattle.history.proofs.Numbers.{write-answered, read-answered}
 use Rattle.history.proofs.Effects.{all-effects}
 use Rattle.history.proofs.Counted.{counted-is-done}
+use Rattle.history.proofs.Waves.{wave-tables}
 
 module _ (s : List ℕ) (level event : ℕ) where
   held : heldAt s (R.Slot level) event ≡ true → HeldElsewhere s level event
@@ -39,4 +40,13 @@ module _ (s : List ℕ) (level event : ℕ) where
 
 -- DEMAND 1
 pub demand1 : Demand1
-demand1 = record { write = write-answered; read = read-answered; effects = all-effects; counted = counted-is-done; seven = held; seven-only = held-only }
+demand1 =
+    record {
+      write = write-answered;
+      read = read-answered;
+      effects = all-effects;
+      counted = counted-is-done;
+      tables = wave-tables;
+      seven = held;
+      seven-only = held-only;
+    }

@@ -10,14 +10,15 @@ use Rattle.history.proofs.Counts.{counts-right}
 use Rattle.history.proofs.Triggers.{trigger-rule, image-right}
 use Rattle.history.proofs.Story.{channels-right, at-rest}
 use Rattle.history.proofs.Countdowns.{countdowns-set, older-goes-on}
+use Rattle.history.proofs.Waves.{waves-right}
 use Rattle.history.proofs.Active.{active-right, never-shows, shown-on-time}
 use Rattle.history.proofs.Named.{loads-named}
 
 -- N TICKS ARE N ACTS
 pub ticks-are : TicksAre
 unfolding TicksAre ticks acceptedOf
-ticks-are zero st = refl
-ticks-are (suc n) st = ticks-are n (advanced st)
+ticks-are waves zero st = refl
+ticks-are waves (suc n) st = ticks-are waves n (advanced waves st)
 
 -- DEMAND 2
 pub demand2 : Demand2
@@ -35,6 +36,7 @@ demand2 =
       image = image-right;
       rest = at-rest;
       channels = channels-right;
+      waves = waves-right;
       older = older-goes-on;
       ticks = ticks-are;
     }

@@ -1,6 +1,6 @@
 -- Demand 3 holds of the card (`demand3-card`): a history without triggers is tracked by acts of channel c, and so demand 3 of one channel,
 -- proved in `course`, is that of the card's channel. Assumes nothing.
-use mathlib.Core.Path.{_≡_, refl, sym, ap, _∙_}
+use mathlib.Core.Path.{_≡_, refl, sym, ap, fun-ext, _∙_}
 use mathlib.Core.Bool.{Bool, true, false}
 use mathlib.Core.List.{List, _++_}
 use Prim.Native.Nat.{ℕ, zero, suc, _+_, _*_, _-_, _≤_, _<_}
@@ -23,35 +23,39 @@ use Rattle.course.proofs.Appends.{run-append, ticks-append, before-first}
 use Rattle.course.proofs.Follows.{trigger-followed}
 use Rattle.course.specs.Outputs.{Outputs, OutputsFollow}
 use Rattle.course.proofs.Outputs.{outputs-follow}
-use Rattle.history.specs.History.{Act, Tick, act, acts, ticksIn, until}
+use Rattle.history.specs.History.{Act, Tick, act, acts, ticksIn, until, wavesOn}
 use Rattle.history.specs.Triggers.{eventBy}
 use Rattle.history.specs.Countdowns.{justBefore}
 use Rattle.history.specs.Demand3.{sideAt, Demand3}
-use Rattle.history.proofs.Tracks.{until-untimed, held-untimed, held-end, TickTurn, tick-turn, quiet-tick, tick-same, TriggerTurn, trigger-turn, trigger-goes, trigger-four, Tracked, tracked, trigger-is, before-room}
+use Rattle.history.proofs.Tracks.{until-untimed, held-untimed, waves-untimed, held-end, waves-end, TickTurn, tick-turn, quiet-tick, tick-same, TriggerTurn, trigger-turn, trigger-goes, trigger-four, Tracked, tracked, trigger-is, before-room}
 
 -- what is so now, and what the next tick does
-join : (c level d : ℕ) (s : List ℕ) (a t : ℕ) (now x y later z : Side) → y .channel ≡ now .channel → later .channel ≡ z .channel
-    → Follows c level d s a t now x → Follows c level d s a t y later → Follows c level d s a t now z
-join c level d s a t now x y later z e f p q =
+join : (c level d : ℕ) (s : List ℕ) (a t : ℕ) (u : List ℕ) (now x y later z : Side) → y .channel ≡ now .channel → later .channel ≡ z .channel
+    → Follows c level d s a t u now x → Follows c level d s a t u y later → Follows c level d s a t u now z
+join c level d s a t u now x y later z e f p q =
     record {
       loaded = p .loaded;
       table = p .table;
       aborted = λ h. rw (e, f) at (q .aborted h);
+      held = λ h. rw (e, f) at (q .held h);
       sample = λ h k i j. rw (e, f) at (q .sample h k i j);
       silent = λ h i. rw (e, f) at (q .silent h i);
+      made = λ h k i j. rw (e, f) at (q .made h k i j);
+      still = λ h i. rw (e, f) at (q .still h i);
       counts = p .counts;
       runs = p .runs;
       rests = p .rests;
+      frees = p .frees;
       off = p .off;
     }
 
-same-follows : (c level d d′ : ℕ) (s s′ : List ℕ) (a a′ t t′ : ℕ) (now now′ later : Side) → d ≡ d′ → s ≡ s′ → a ≡ a′ → t ≡ t′ → now ≡ now′
-    → Follows c level d s a t now later → Follows c level d′ s′ a′ t′ now′ later
-same-follows c level d d′ s s′ a a′ t t′ now now′ later e₁ e₂ e₃ e₄ e₅ f = rw (e₁, e₂, e₃, e₄, e₅) at f
+same-follows : (c level d d′ : ℕ) (s s′ : List ℕ) (a a′ t t′ : ℕ) (u : List ℕ) (now now′ later : Side) → d ≡ d′ → s ≡ s′ → a ≡ a′ → t ≡ t′ → now ≡ now′
+    → Follows c level d s a t u now later → Follows c level d′ s′ a′ t′ u now′ later
+same-follows c level d d′ s s′ a a′ t t′ u now now′ later e₁ e₂ e₃ e₄ e₅ f = rw (e₁, e₂, e₃, e₄, e₅) at f
 
--- the trigger of the state `from`, then a tracked history, then channel c's turn in a tick
+-- the trigger of the state `from`, then a tracked history, then channel c's turn in a tick with these wave tables
 module _ (c : ℕ) (inside : c < 4) (from : State) (level event : ℕ) (k : State) (is : k ≡ triggerOf from level event) (xs : List Act)
-    (y : TriggerTurn from level c) (r : Tracked c k xs) (w : TickTurn (acts k xs) c) where
+    (y : TriggerTurn from level c) (r : Tracked c k xs) (waves : List ℕ) (w : TickTurn waves (acts k xs) c) where
   -- the side at the trigger, the acts after it, and those before the tick's turn
   abbrev s : List ℕ
   s = from .settings
@@ -106,26 +110,26 @@ module _ (c : ℕ) (inside : c < 4) (from : State) (level event : ℕ) (k : Stat
   by-channel : 512 ≤ length (from .tables) → (ys : List C.Act) (now : Side) → ((n : ℕ) → C.heldOn s z n ys ≡ acts k (until n xs) .settings)
       → C.ticksIn ys ≡ ticksIn xs → C.run c set-off ys ≡ now
       → Follows c level (countdown (k .settings) c level) (acts k (until (countdown (k .settings) c level - 10) xs) .settings)
-      (word (acts k (until (countdown (k .settings) c level) xs) .settings) (enableAt c)) (ticksIn xs) now (C.act c now (C.Tick z))
+      (word (acts k (until (countdown (k .settings) c level) xs) .settings) (enableAt c)) (ticksIn xs) waves now (C.act c now (C.Tick z waves))
   unfolding F.TriggerFollowed
   by-channel h ys now f t e =
       same-later
-      (same-follows c level _ _ _ _ _ _ _ _ _ _ _ same-delay
+      (same-follows c level _ _ _ _ _ _ _ _ waves _ _ _ same-delay
       (f (countdown s c level - 10) ∙ ap (λ (n : ℕ). acts k (until (n - 10) xs) .settings) same-delay)
       (ap (λ (u : List ℕ). word u (enableAt c)) (f (countdown s c level) ∙ ap (λ (n : ℕ). acts k (until n xs) .settings) same-delay))
       t e
-      (trigger-followed s (y .mid) c (channelOf (from .card) c) level (room-mid h) ys z))
+      (trigger-followed s (y .mid) c (channelOf (from .card) c) level (room-mid h) ys z waves))
     where
-      same-later : {d : ℕ} {u : List ℕ} {a t : ℕ} → Follows c level d u a t now (C.act c (C.run c set-off ys) (C.Tick z))
-          → Follows c level d u a t now (C.act c now (C.Tick z))
+      same-later : {d : ℕ} {u : List ℕ} {a t : ℕ} → Follows c level d u a t waves now (C.act c (C.run c set-off ys) (C.Tick z waves))
+          → Follows c level d u a t waves now (C.act c now (C.Tick z waves))
       same-later g = rw e at g
 
-  follows : 512 ≤ length (from .tables) → (later : State) → later ≡ advanced (acts k xs)
+  follows : 512 ≤ length (from .tables) → (later : State) → later ≡ advanced waves (acts k xs)
       → Follows c level (countdown (k .settings) c level) (acts k (until (countdown (k .settings) c level - 10) xs) .settings)
-      (word (acts k (until (countdown (k .settings) c level) xs) .settings) (enableAt c)) (ticksIn xs) (sideAt (acts k xs) c) (sideAt later c)
+      (word (acts k (until (countdown (k .settings) c level) xs) .settings) (enableAt c)) (ticksIn xs) waves (sideAt (acts k xs) c) (sideAt later c)
   follows h later e =
-      join c level _ _ _ _ (sideAt (acts k xs) c) _ (side (channelOf (acts k xs .card) c) (w .mid)) _ (sideAt later c) refl
-      (tick-same (acts k xs) c w ∙ ap (λ (x : State). channelOf (x .card) c) (sym e))
+      join c level _ _ _ _ waves (sideAt (acts k xs) c) _ (side (channelOf (acts k xs .card) c) (w .mid)) _ (sideAt later c) refl
+      (tick-same waves (acts k xs) c w ∙ ap (λ (x : State). channelOf (x .card) c) (sym e))
       (by-channel h zs (sideAt (acts k xs) c) held-zs ticks-zs runs-zs)
       (by-channel h all (side (channelOf (acts k xs .card) c) (w .mid)) held-all ticks-all runs-all)
 
@@ -152,49 +156,73 @@ module _ (c : ℕ) (inside : c < 4) (from : State) (level event : ℕ) (k : Stat
           ∙ ap (λ (ys : List C.Act). C.run c set-off ys .channel) (sym (before-all n zs (omega arith)))
           ∙ passes-zs n
 
+  waves-zs : (n : ℕ) → C.wavesOn waves (suc n) zs ≡ wavesOn waves (suc n) xs
+  waves-zs n = waves-untimed waves n (y .after) (r .doings) (y .none-after) ∙ r .waves waves n
+
+  waves-all : (n : ℕ) → C.wavesOn waves (suc n) all ≡ wavesOn waves (suc n) xs
+  waves-all n = waves-end waves n zs (w .before) (w .none) ∙ waves-zs n
+
   by-outputs : 512 ≤ length (from .tables) → word (acts k (until (countdown (k .settings) c level) xs) .settings) (enableAt c) ≡ 1
       → (ys : List C.Act) (now : Side) → ((n : ℕ) → C.heldOn s z n ys ≡ acts k (until n xs) .settings)
+      → ((n : ℕ) → C.wavesOn waves (suc n) ys ≡ wavesOn waves (suc n) xs)
       → ((n : ℕ) → C.run c set-off (C.until (suc n) ys) .channel ≡ channelOf (acts k (until (suc n) xs) .card) c)
       → C.ticksIn ys ≡ ticksIn xs → C.run c set-off ys ≡ now
       → Outputs c level (countdown (k .settings) c level) (acts k (until (countdown (k .settings) c level - 10) xs) .settings)
-      (channelOf (acts k (until (countdown (k .settings) c level) xs) .card) c .shown .output) (ticksIn xs) now (C.act c now (C.Tick z))
+      (λ n. wavesOn waves (countdown (k .settings) c level + 10 * n) xs)
+      (channelOf (acts k (until (countdown (k .settings) c level) xs) .card) c .shown .amplitude)
+      (channelOf (acts k (until (countdown (k .settings) c level) xs) .card) c .signal .output) (ticksIn xs) now (C.act c now (C.Tick z waves))
   unfolding OutputsFollow
-  by-outputs h on ys now f g t e =
+  by-outputs h on ys now f u g t e =
       rw (
         sym same-delay,
         sym (f (countdown s c level - 10)),
+        sym same-waves,
         sym (at-start (countdown s c level) (omega arith)),
         sym t,
         sym e,
       )
-      (outputs-follow s (y .mid) c (channelOf (from .card) c) level (room-mid h) ys z
-      (ap (λ (u : List ℕ). word u (enableAt c)) (f (countdown s c level) ∙ ap (λ (n : ℕ). acts k (until n xs) .settings) same-delay) ∙ on))
+      (outputs-follow s (y .mid) c (channelOf (from .card) c) level (room-mid h) ys z waves
+      (ap (λ (v : List ℕ). word v (enableAt c)) (f (countdown s c level) ∙ ap (λ (n : ℕ). acts k (until n xs) .settings) same-delay) ∙ on))
     where
-      at-start : (n : ℕ) → 1 ≤ n → C.run c set-off (C.until n ys) .channel .shown .output ≡ channelOf (acts k (until n xs) .card) c .shown .output
+      at-start : (n : ℕ) → 1 ≤ n → C.run c set-off (C.until n ys) .channel ≡ channelOf (acts k (until n xs) .card) c
       at-start zero i = absurd (omega arith)
-      at-start (suc n) i = ap (λ (ch : Channel). ch .shown .output) (g n)
+      at-start (suc n) i = g n
 
-  outputs : 512 ≤ length (from .tables) → (later : State) → later ≡ advanced (acts k xs)
+      on-tick : (n : ℕ) → 1 ≤ n → C.wavesOn waves n ys ≡ wavesOn waves n xs
+      on-tick zero i = absurd (omega arith)
+      on-tick (suc n) i = u n
+
+      same-waves : _≡_ {A = ℕ → List ℕ} (λ n. C.wavesOn waves (countdown s c level + 10 * n) ys) (λ n. wavesOn waves (countdown s c level + 10 * n) xs)
+      same-waves = fun-ext (λ n. on-tick (countdown s c level + 10 * n) (omega arith))
+
+  outputs : 512 ≤ length (from .tables) → (later : State) → later ≡ advanced waves (acts k xs)
       → word (acts k (until (countdown (k .settings) c level) xs) .settings) (enableAt c) ≡ 1
       → Outputs c level (countdown (k .settings) c level) (acts k (until (countdown (k .settings) c level - 10) xs) .settings)
-      (channelOf (acts k (until (countdown (k .settings) c level) xs) .card) c .shown .output) (ticksIn xs) (sideAt (acts k xs) c) (sideAt later c)
+      (λ n. wavesOn waves (countdown (k .settings) c level + 10 * n) xs)
+      (channelOf (acts k (until (countdown (k .settings) c level) xs) .card) c .shown .amplitude)
+      (channelOf (acts k (until (countdown (k .settings) c level) xs) .card) c .signal .output) (ticksIn xs) (sideAt (acts k xs) c) (sideAt later c)
   outputs h later e on =
-      let p = by-outputs h on zs (sideAt (acts k xs) c) held-zs passes-zs ticks-zs runs-zs in
-      let q = by-outputs h on all (side (channelOf (acts k xs .card) c) (w .mid)) held-all passes-all ticks-all runs-all in
+      let p = by-outputs h on zs (sideAt (acts k xs) c) held-zs waves-zs passes-zs ticks-zs runs-zs in
+      let q = by-outputs h on all (side (channelOf (acts k xs .card) c) (w .mid)) held-all waves-all passes-all ticks-all runs-all in
       record {
-        between = p .between;
-        just = λ j i g. ap (λ (ch : Channel). ch .shown .output) (sym (tick-same (acts k xs) c w ∙ ap (λ (x : State). channelOf (x .card) c) (sym e))) ∙ q .just j i g;
+        amplitude = p .amplitude;
+        output = p .output;
+        justAmplitude = λ j i g. ap (λ (ch : Channel). ch .shown .amplitude) same-later ∙ q .justAmplitude j i g;
+        justOutput = λ j i g. ap (λ (ch : Channel). ch .signal .output) same-later ∙ q .justOutput j i g;
       }
+    where
+      same-later : channelOf (later .card) c ≡ C.act c (side (channelOf (acts k xs .card) c) (w .mid)) (C.Tick z waves) .channel
+      same-later = ap (λ (x : State). channelOf (x .card) c) e ∙ sym (tick-same waves (acts k xs) c w)
 
 -- DEMAND 3 OF THE CARD
 pub demand3-card : Demand3
 unfolding Demand3
-demand3-card st room x level is xs event quiet none c inside =
+demand3-card st room x level is xs waves event quiet none c inside =
     let k = justBefore st x in
     let t = trigger-is st x level is in
     let r = tracked c inside (act st x) xs (rw t (trigger-four k level (eventBy x))) quiet in
     let y = trigger-turn k level c inside in
-    let w = tick-turn (acts (act st x) xs) c inside in
-    let later = act (acts (act st x) xs) (Tick event) in
-    let e = quiet-tick (acts (act st x) xs) event none in
-    (follows c inside k level (eventBy x) (act st x) t xs y r w (rw (before-room st x) room) later e, outputs c inside k level (eventBy x) (act st x) t xs y r w (rw (before-room st x) room) later e)
+    let w = tick-turn waves (acts (act st x) xs) c inside in
+    let later = act (acts (act st x) xs) (Tick waves event) in
+    let e = quiet-tick waves (acts (act st x) xs) event none in
+    (follows c inside k level (eventBy x) (act st x) t xs y r waves w (rw (before-room st x) room) later e, outputs c inside k level (eventBy x) (act st x) t xs y r waves w (rw (before-room st x) room) later e)

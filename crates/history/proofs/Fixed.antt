@@ -1,4 +1,4 @@
--- The registers of the fixed words, of the scale factors and of the ramp map, each found in its row. Assumes nothing.
+-- The registers of the fixed words, of the scale factors, of the ramp map and of A01, each found in its row. Assumes nothing.
 use mathlib.Core.Path.{_≡_, sym}
 use mathlib.Core.Bool.{true}
 use Prim.Native.Nat.{ℕ, _+_, _-_, _%_, _≤_, _<_}
@@ -8,7 +8,7 @@ use Rattle.map.specs.declared.Setting.{Setting}
 use Rattle.map.specs.declared.Setting.the-variants as S
 use Rattle.map.specs.declared.Register.the-variants as R
 use Rattle.map.specs.Map.{channelRows, base, settings, point, registerOf, acceptedAt}
-use Rattle.map.specs.Addresses.{tableAt, rampMapAt, scaleAt, offsetAt}
+use Rattle.map.specs.Addresses.{tableAt, rampMapAt, scaleAt, offsetAt, modeAt}
 use Rattle.map.proofs.Rows.{found}
 use Rattle.map.proofs.Values.{free}
 use Rattle.map.proofs.Blocks.{channel-ordered, channel-accepted}
@@ -49,3 +49,7 @@ unfolding channelRows
 ramp-map-register c level h l =
     let e : rampMapAt c level ≡ base c + (0x800 + level) = omega arith in
     rw (e, channel-row c (0x800 + level) 1 h (omega arith) (omega arith) (omega arith) (omega arith)) (sym (free 0 (λ o. S.RampMap) c (0x800 + level - 0x800) (omega arith)))
+
+pub mode-register : (c : ℕ) → c < 4 → registerOf (modeAt c) ≡ R.Setting S.WaveformMode
+unfolding channelRows
+mode-register c h = channel-row c 0xA01 12 h (omega arith) (omega arith) (omega arith) (omega arith)

@@ -11,13 +11,13 @@ use Rattle.map.specs.declared.Register.the-variants as R
 use Rattle.map.specs.Map.{registerOf}
 use Rattle.slots.proofs.Fills.{erased-length}
 use Rattle.channel.specs.declared.Channel.{Channel}
-use Rattle.channel.specs.Channel.{word}
+use Rattle.channel.specs.Channel.{word, outputTo, overflowCleared}
 use Rattle.card.specs.declared.Card.{Card}
 use Rattle.card.specs.Card.{State, state, channelOf, withChannel, onAll}
 use Rattle.card.specs.Trigger.{triggerOf}
 use Rattle.transfer.specs.declared.Effect.{Effect}
 use Rattle.transfer.specs.declared.Effect.the-variants.{Keep, Output, ClearOverflow, ClearCount, Erase, Trigger, Nothing}
-use Rattle.transfer.specs.Word.{effectOf, outputTo, overflowCleared, performOf}
+use Rattle.transfer.specs.Word.{effectOf, performOf}
 use Rattle.course.proofs.Copies.{trigger-length}
 use Rattle.history.specs.Frame.{InBlock, But, Frame, SameLengths, LengthsKept}
 use Rattle.history.proofs.Registers.{Own, own, region-ends}
@@ -35,6 +35,7 @@ but-settings c x s h =
       level = refl;
       loaded = refl;
       place = refl;
+      counter = refl;
       counts = refl;
       active = refl;
       pending = refl;
@@ -53,6 +54,7 @@ but-then c x y z p q =
       level = q .level ∙ p .level;
       loaded = q .loaded ∙ p .loaded;
       place = q .place ∙ p .place;
+      counter = q .counter ∙ p .counter;
       counts = q .counts ∙ p .counts;
       active = q .active ∙ p .active;
       pending = q .pending ∙ p .pending;
@@ -64,16 +66,18 @@ module _ (c : ℕ) (x : State) where
   but-kept : (a v : ℕ) → InBlock c a → But c x (performOf x a (Keep v))
   but-kept a v i = but-settings c x (set (x .settings) a v) (λ b d. getD-set-other (x .settings) a b v 0 (λ e. d (rw e i)))
 
-  -- the channel's words shown
+  -- the channel's words shown, its amplitude and its overflow count
   but-shown : (ch : Channel) → ch .phase ≡ channelOf (x .card) c .phase → ch .level ≡ channelOf (x .card) c .level → ch .loaded ≡ channelOf (x .card) c .loaded
-      → ch .shown .place ≡ channelOf (x .card) c .shown .place → But c x (state (withChannel (x .card) c ch) (x .settings) (x .tables))
-  but-shown ch p q r u =
+      → ch .shown .place ≡ channelOf (x .card) c .shown .place → ch .signal .counter ≡ channelOf (x .card) c .signal .counter
+      → But c x (state (withChannel (x .card) c ch) (x .settings) (x .tables))
+  but-shown ch p q r u n =
       record {
         others = λ j d. channel-other (x .card) c ch j d;
         phase = channel-either (x .card) c ch (λ y. y .phase ≡ channelOf (x .card) c .phase) p refl;
         level = channel-either (x .card) c ch (λ y. y .level ≡ channelOf (x .card) c .level) q refl;
         loaded = channel-either (x .card) c ch (λ y. y .loaded ≡ channelOf (x .card) c .loaded) r refl;
         place = channel-either (x .card) c ch (λ y. y .shown .place ≡ channelOf (x .card) c .shown .place) u refl;
+        counter = channel-either (x .card) c ch (λ y. y .signal .counter ≡ channelOf (x .card) c .signal .counter) n refl;
         counts = channel-keeps (x .card) c ch (λ (k : Card). k .counts) refl;
         active = channel-keeps (x .card) c ch (λ (k : Card). k .active) refl;
         pending = channel-keeps (x .card) c ch (λ (k : Card). k .pending) refl;
@@ -84,9 +88,9 @@ module _ (c : ℕ) (x : State) where
   but-done : (r : Register) (a v : ℕ) → Own c r → InBlock c a → But c x (performOf x a (effectOf r v))
   but-done (R.Setting s) a v o i = but-kept a v i
   but-done (R.Fixed s) a v o i = but-none c x
-  but-done (R.Output d) a v o i = rw o (but-shown (outputTo (channelOf (x .card) c) v) refl refl refl refl)
+  but-done (R.Output d) a v o i = rw o (but-shown (outputTo (channelOf (x .card) c) v) refl refl refl refl refl)
   but-done (R.Status d f) a v o i = but-none c x
-  but-done (R.Overflow d) a v o i = rw o (but-shown (overflowCleared (channelOf (x .card) c)) refl refl refl refl)
+  but-done (R.Overflow d) a v o i = rw o (but-shown (overflowCleared (channelOf (x .card) c)) refl refl refl refl refl)
   but-done R.Unlisted a v o i = but-none c x
 
 -- A WRITE IN CHANNEL c'S BLOCK TOUCHES THAT CHANNEL ALONE

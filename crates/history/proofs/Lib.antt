@@ -17,10 +17,10 @@ pub mod Tracks
 pub mod Demand3
 pub mod Settings
 pub mod Counted
+pub mod Waves
 pub mod Demand1
 pub mod Counts
 pub mod Triggers
-pub mod Waves
 pub mod Story
 pub mod Countdowns
 pub mod Loads

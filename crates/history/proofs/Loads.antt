@@ -13,12 +13,12 @@ use Rattle.slots.specs.declared.Holder.the-variants.{Level}
 use Rattle.word.specs.Word.{grown, lasting}
 use Rattle.channel.specs.declared.Moved.{Moved}
 use Rattle.channel.specs.declared.Ramp.{Ramp}
-use Rattle.channel.specs.declared.Ramp.the-variants.{Still, Going}
+use Rattle.channel.specs.declared.Ramp.the-variants.{Still, Going, Free}
 use Rattle.channel.specs.declared.Phase.{Phase}
-use Rattle.channel.specs.declared.Phase.the-variants.{Rest, Counting, Running}
+use Rattle.channel.specs.declared.Phase.the-variants.{Rest, Counting, Running, FreeRunning}
 use Rattle.channel.specs.declared.Channel.{Channel}
 use Rattle.channel.specs.Ramp.{enter, given, advance}
-use Rattle.channel.specs.Channel.{word, with, side, firstOf, lead, loadsAt, toStart, justLoaded, load, loadedFor, start, phaseOf, countTo, tickAt, countdown}
+use Rattle.channel.specs.Channel.{Move, move, quiet, word, with, firstOf, lead, loadsAt, toStart, justLoaded, load, loadedFor, start, phaseOf, countTo, moveAt, tickOf, countdown}
 use Rattle.card.specs.declared.Cause.{Cause}
 use Rattle.card.specs.declared.Card.{Card}
 use Rattle.card.specs.Card.{State, channelOf, withChannels, countOf, onSome}
@@ -26,8 +26,8 @@ use Rattle.card.specs.Active.{cause}
 use Rattle.card.specs.Trigger.{counted, struck, triggerOf}
 use Rattle.card.specs.Tick.{advanced}
 use Rattle.course.proofs.Copies.{choose}
-use Rattle.history.specs.History.{Act, Tick, Write, Read, Reset, wordsDone}
-use Rattle.history.specs.Story.{Happening, Load, Sample, Output, Clear, Fresh, byRamp, byStart, inPhase, byTrigger, byWord, byWords, inTick, atTrigger}
+use Rattle.history.specs.History.{Act, Tick, Write, Read, HandIn, Reset, wordsDone}
+use Rattle.history.specs.Story.{Happening, Load, Sample, FreeSample, Output, Clear, Fresh, byRamp, byStart, inPhase, byTrigger, byWord, byWords, inTick, atTrigger}
 use Rattle.history.specs.Active.{loadAmong, loadsBy, loadsByCounting, loadsBefore, loadsAtTrigger}
 use Rattle.history.proofs.Cards.{count-keeps}
 use Rattle.history.proofs.Tracks.{tick-turn, tick-same, trigger-turn, trigger-same}
@@ -66,7 +66,8 @@ some-or f g =
 load-append : (hs js : List Happening) → loadAmong (hs ++ js) ≡ loadAmong hs || loadAmong js
 load-append [] js = refl
 load-append (Load ld ∷ hs) js = refl
-load-append (Sample p u ∷ hs) js = load-append hs js
+load-append (Sample w f p u ∷ hs) js = load-append hs js
+load-append (FreeSample w ∷ hs) js = load-append hs js
 load-append (Output v ∷ hs) js = load-append hs js
 load-append (Clear ∷ hs) js = load-append hs js
 load-append (Fresh ∷ hs) js = load-append hs js
@@ -83,33 +84,35 @@ words-load c a (v ∷ vs) = load-append (byWord c a v) (byWords c (a + 1) vs) �
 
 -- THE LOADS OF AN ACT ARE THOSE BY COUNTING AND THOSE AT ITS TRIGGER
 pub loads-told : (st : State) (x : Act) → loadsBy st x ≡ loadsBefore st x || loadsAtTrigger st x
-loads-told st (Tick event) =
-    some-same _ _ (λ c h. load-append (inTick st c) (atTrigger st (Tick event) c))
-    ∙ some-or (λ c. loadAmong (inTick st c)) (λ c. loadAmong (atTrigger st (Tick event) c))
+loads-told st (Tick waves event) =
+    some-same _ _ (λ c h. load-append (inTick waves st c) (atTrigger st (Tick waves event) c))
+    ∙ some-or (λ c. loadAmong (inTick waves st c)) (λ c. loadAmong (atTrigger st (Tick waves event) c))
 loads-told st (Write start count ws) =
     some-same _ _
     (λ c h. load-append (atTrigger st (Write start count ws) c) (byWords c start (wordsDone st start count ws))
     ∙ ap (λ (b : Bool). loadAmong (atTrigger st (Write start count ws) c) || b) (words-load c start (wordsDone st start count ws))
     ∙ or-false (loadAmong (atTrigger st (Write start count ws) c)))
 loads-told st (Read start count ws) = refl
+loads-told st (HandIn to ws) = refl
 loads-told st Reset = refl
 
 -- ---- a channel's tick
 
-module _ (s l : List ℕ) (c : ℕ) (ch : Channel) where
+module _ (u s l : List ℕ) (c : ℕ) (ch : Channel) where
   -- samples are no loads
   abbrev NoLoad : List Happening → Type 0
   NoLoad hs = loadAmong hs ≡ false
 
-  pub ramp-loads : (r : Ramp) → NoLoad (byRamp l c ch r)
+  pub ramp-loads : (r : Ramp) → NoLoad (byRamp u l c ch r)
   ramp-loads Still = refl
   ramp-loads (Going w) = choose NoLoad (ltb 1 (w .wait .0)) _ _ refl refl
+  ramp-loads (Free w) = choose NoLoad (ltb 1 (w .wait .0)) _ _ refl refl
 
-  pub start-loads : NoLoad (byStart s l c ch)
+  pub start-loads : NoLoad (byStart u s l c ch)
   start-loads = choose NoLoad (eqb (word s (enableAt c)) 1) _ _ refl refl
 
   -- A TICK LOADS WHERE THE COUNTDOWN REACHES 10
-  pub tick-loads : (p : Phase) → loadAmong (inPhase p s l c ch) ≡ loadsAt (toStart p - 1)
+  pub tick-loads : (p : Phase) → loadAmong (inPhase p u s l c ch) ≡ loadsAt (toStart p - 1)
   tick-loads Rest = refl
   tick-loads (Counting n older) = go (eqb (n .0 - 1) 0) refl (loadsAt (n .0 - 1)) refl
     where
@@ -117,24 +120,27 @@ module _ (s l : List ℕ) (c : ℕ) (ch : Channel) where
       none e = rw (eqb-true (n .0 - 1) 0 e)
 
       go : (a : Bool) → eqb (n .0 - 1) 0 ≡ a → (b : Bool) → loadsAt (n .0 - 1) ≡ b
-          → loadAmong (cond a (byStart s l c ch) (cond b (Load (loadedFor s c (ch .level)) ∷ []) (byRamp l c ch older))) ≡ b
+          → loadAmong (cond a (byStart u s l c ch) (cond b (Load (loadedFor s c (ch .level)) ∷ []) (byRamp u l c ch older))) ≡ b
       go true e b f = start-loads ∙ sym (none e) ∙ f
       go false e true f = refl
       go false e false f = ramp-loads older
   tick-loads (Running w) = ramp-loads (Going w)
+  tick-loads (FreeRunning w) = ramp-loads (Free w)
 
+module _ (s l : List ℕ) (c : ℕ) (ch : Channel) where
   ramp-counts : (r : Ramp) → toStart (phaseOf r) ≡ 0
   ramp-counts Still = refl
   ramp-counts (Going w) = refl
+  ramp-counts (Free w) = refl
 
-  start-counts : toStart (start s l c ch .phase) ≡ 0
+  start-counts : toStart (start s l c ch .channel .phase) ≡ 0
   unfolding start
-  start-counts = choose (λ (x : Channel). toStart (x .phase) ≡ 0) (eqb (word s (enableAt c)) 1) _ _
-      (ramp-counts (given l (firstOf c) (ch .loaded) (lasting 1) (enter l (firstOf c) 0) (ch .shown) .ramp)) refl
+  start-counts = choose (λ (x : Move). toStart (x .channel .phase) ≡ 0) (eqb (word s (enableAt c)) 1) _ _
+      (ramp-counts (given true l (firstOf c) (ch .loaded) (lasting 1) (enter l (firstOf c) 0) (ch .shown) .ramp)) refl
 
   -- A TICK TAKES ONE MICROSECOND FROM THE COUNTDOWN
-  pub tick-counts : (p : Phase) → ch .phase ≡ p → toStart (tickAt p s l c ch .channel .phase) ≡ toStart p - 1
-  unfolding tickAt countTo load
+  pub tick-counts : (p : Phase) → ch .phase ≡ p → toStart (moveAt p s l c ch .channel .phase) ≡ toStart p - 1
+  unfolding moveAt countTo load
   tick-counts Rest e = rw e
   tick-counts (Counting n older) e = go (eqb (n .0 - 1) 0) refl (loadsAt (n .0 - 1)) refl
     where
@@ -142,30 +148,32 @@ module _ (s l : List ℕ) (c : ℕ) (ch : Channel) where
       o = advance l (firstOf c) (ch .loaded) older (ch .shown)
 
       go : (a : Bool) → eqb (n .0 - 1) 0 ≡ a → (b : Bool) → loadsAt (n .0 - 1) ≡ b
-          → toStart (cond a (side (start s l c ch) l) (cond b (load s l c ch (ch .level)) (side (with ch (Counting (record { 0 = n .0 - 1 }) (o .ramp)) (o .shown)) l)) .channel .phase)
+          → toStart (cond a (start s l c ch) (cond b (quiet (load s l c ch (ch .level))) (move (with ch (Counting (record { 0 = n .0 - 1 }) (o .ramp)) (o .shown)) l (o .gave))) .channel .phase)
           ≡ n .0 - 1
       go true e b f = start-counts ∙ sym (eqb-true (n .0 - 1) 0 e)
       go false e true f = sym (eqb-true (n .0 - 1) lead f)
       go false e false f = refl
   tick-counts (Running w) e = ramp-counts (advance l (firstOf c) (ch .loaded) (Going w) (ch .shown) .ramp)
+  tick-counts (FreeRunning w) e = ramp-counts (advance l (firstOf c) (ch .loaded) (Free w) (ch .shown) .ramp)
 
 -- ---- the card
 
-module _ (st : State) where
-  pub advanced-counts : (c : ℕ) → c < 4 → toStart (channelOf (advanced st .card) c .phase) ≡ toStart (channelOf (st .card) c .phase) - 1
+module _ (waves : List ℕ) (st : State) where
+  pub advanced-counts : (c : ℕ) → c < 4 → toStart (channelOf (advanced waves st .card) c .phase) ≡ toStart (channelOf (st .card) c .phase) - 1
+  unfolding tickOf
   advanced-counts c h =
-      ap (λ (ch : Channel). toStart (ch .phase)) (sym (tick-same st c (tick-turn st c h)))
-      ∙ tick-counts (st .settings) (tick-turn st c h .mid) c (channelOf (st .card) c) (channelOf (st .card) c .phase) refl
+      ap (λ (ch : Channel). toStart (ch .phase)) (sym (tick-same waves st c (tick-turn waves st c h)))
+      ∙ tick-counts (st .settings) (tick-turn waves st c h .mid) c (channelOf (st .card) c) (channelOf (st .card) c .phase) refl
 
-  counting-told : (c : ℕ) → c < 4 → justLoaded (channelOf (advanced st .card) c .phase) ≡ loadAmong (inTick st c)
-  counting-told c h = ap loadsAt (advanced-counts c h) ∙ sym (tick-loads (st .settings) (st .tables) c (channelOf (st .card) c) (channelOf (st .card) c .phase))
+  counting-told : (c : ℕ) → c < 4 → justLoaded (channelOf (advanced waves st .card) c .phase) ≡ loadAmong (inTick waves st c)
+  counting-told c h = ap loadsAt (advanced-counts c h) ∙ sym (tick-loads waves (st .settings) (st .tables) c (channelOf (st .card) c) (channelOf (st .card) c .phase))
 
   -- A TICK SHOWS THE PENDING TRIGGER WHERE SOME CHANNEL LOADS BY COUNTING
-  pub advanced-active : advanced st .card .active ≡ cond (loadsByCounting st) (st .card .pending) (st .card .active)
+  pub advanced-active : advanced waves st .card .active ≡ cond (loadsByCounting waves st) (st .card .pending) (st .card .active)
   unfolding advanced
   advanced-active = ap (λ (b : Bool). cond b (st .card .pending) (st .card .active)) (some-same _ _ counting-told)
 
-  pub advanced-pending : advanced st .card .pending ≡ st .card .pending
+  pub advanced-pending : advanced waves st .card .pending ≡ st .card .pending
   unfolding advanced
   advanced-pending = refl
 

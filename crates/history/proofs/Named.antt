@@ -8,9 +8,9 @@ use lib.Dec.{eqb}
 use lib.ListN.{length}
 use Rattle.slots.specs.declared.Holder.{Holder}
 use Rattle.slots.specs.declared.Holder.the-variants.{Level, Nobody}
-use Rattle.channel.specs.declared.Ramp.the-variants.{Going}
+use Rattle.channel.specs.declared.Ramp.the-variants.{Going, Free}
 use Rattle.channel.specs.declared.Phase.{Phase}
-use Rattle.channel.specs.declared.Phase.the-variants.{Rest, Counting, Running}
+use Rattle.channel.specs.declared.Phase.the-variants.{Rest, Counting, Running, FreeRunning}
 use Rattle.channel.specs.declared.Channel.{Channel}
 use Rattle.channel.specs.Channel.{Side, loadsAt, load, loadedFor, countdown, triggered}
 use Rattle.card.specs.declared.Cause.{Cause}
@@ -20,7 +20,7 @@ use Rattle.card.specs.Tick.{advanced}
 use Rattle.card.specs.Reset.{cardReset, resetOf}
 use Rattle.course.proofs.Copies.{choose}
 use Rattle.course.proofs.Acts.{tick-level}
-use Rattle.history.specs.History.{Act, Tick, Write, Read, Reset, act, acts, readBack, triggerBy}
+use Rattle.history.specs.History.{Act, Tick, Write, Read, HandIn, Reset, act, acts, readBack, triggerBy}
 use Rattle.history.specs.Triggers.{eventBy}
 use Rattle.history.specs.Story.{Happening, Load, byRamp, byStart, inPhase, byTrigger, inTick, atTrigger}
 use Rattle.history.specs.Countdowns.{justBefore}
@@ -47,15 +47,15 @@ reset-levels s l = record { four = four; same = λ c h. ap (λ (ch : Channel). c
     level : 0 ≡ cardReset .pending .level
     level = refl
 
-tick-levels : (st : State) → Levels st → Levels (advanced st)
-tick-levels st h =
+tick-levels : (waves : List ℕ) (st : State) → Levels st → Levels (advanced waves st)
+tick-levels waves st h =
     record {
-      four = advanced-four st;
+      four = advanced-four waves st;
       same =
-          λ c i. ap (λ (ch : Channel). ch .level) (sym (tick-same st c (tick-turn st c i)))
-          ∙ tick-level (st .settings) (tick-turn st c i .mid) c (channelOf (st .card) c)
+          λ c i. ap (λ (ch : Channel). ch .level) (sym (tick-same waves st c (tick-turn waves st c i)))
+          ∙ tick-level (st .settings) (tick-turn waves st c i .mid) c (channelOf (st .card) c) waves
           ∙ h .same c i
-          ∙ ap (λ (t : Cause). t .level) (sym (advanced-pending st));
+          ∙ ap (λ (t : Cause). t .level) (sym (advanced-pending waves st));
     }
 
 triggered-level : (s l : List ℕ) (c : ℕ) (ch : Channel) (level : ℕ) → triggered s l c ch level .channel .level ≡ level
@@ -86,9 +86,10 @@ act-levels : (st : State) (x : Act) → Levels st → Levels (act st x)
 act-levels st x h = go (triggerBy st x) refl
   where
     quiet : (y : Act) → triggerBy st y ≡ Nobody → Levels (act st y)
-    quiet (Tick event) e = rw (quiet-tick st event e) (tick-levels st h)
+    quiet (Tick waves event) e = rw (quiet-tick waves st event e) (tick-levels waves st h)
     quiet (Write start count ws) e = write-levels st start count ws e h
     quiet (Read start count ws) e = h
+    quiet (HandIn to ws) e = h
     quiet Reset e = reset-levels (st .settings) (st .tables)
 
     go : (r : Holder) → triggerBy st x ≡ r → Levels (act st x)
@@ -102,19 +103,20 @@ acts-levels st (x ∷ xs) h = acts-levels (act st x) xs (act-levels st x h)
 -- ---- what is loaded
 
 -- a load by counting is for the channel's pending level
-module _ (s l : List ℕ) (c : ℕ) (ch : Channel) where
-  counting-load : (p : Phase) → loadAmong (inPhase p s l c ch) ≡ true → inPhase p s l c ch ≡ Load (loadedFor s c (ch .level)) ∷ []
+module _ (u s l : List ℕ) (c : ℕ) (ch : Channel) where
+  counting-load : (p : Phase) → loadAmong (inPhase p u s l c ch) ≡ true → inPhase p u s l c ch ≡ Load (loadedFor s c (ch .level)) ∷ []
   counting-load Rest e = absurd (true≢false (sym e))
   counting-load (Counting n older) e = go (eqb (n .0 - 1) 0) (loadsAt (n .0 - 1)) e
     where
       ld : List Happening
       ld = Load (loadedFor s c (ch .level)) ∷ []
 
-      go : (a b : Bool) → loadAmong (cond a (byStart s l c ch) (cond b ld (byRamp l c ch older))) ≡ true → cond a (byStart s l c ch) (cond b ld (byRamp l c ch older)) ≡ ld
-      go true b e = absurd (true≢false (sym e ∙ start-loads s l c ch))
+      go : (a b : Bool) → loadAmong (cond a (byStart u s l c ch) (cond b ld (byRamp u l c ch older))) ≡ true → cond a (byStart u s l c ch) (cond b ld (byRamp u l c ch older)) ≡ ld
+      go true b e = absurd (true≢false (sym e ∙ start-loads u s l c ch))
       go false true e = refl
-      go false false e = absurd (true≢false (sym e ∙ ramp-loads s l c ch older))
-  counting-load (Running w) e = absurd (true≢false (sym e ∙ ramp-loads s l c ch (Going w)))
+      go false false e = absurd (true≢false (sym e ∙ ramp-loads u s l c ch older))
+  counting-load (Running w) e = absurd (true≢false (sym e ∙ ramp-loads u s l c ch (Going w)))
+  counting-load (FreeRunning w) e = absurd (true≢false (sym e ∙ ramp-loads u s l c ch (Free w)))
 
 -- a load at a trigger is for the trigger's level
 trigger-load : (s : List ℕ) (c level : ℕ) → loadAmong (byTrigger (Level level) s c) ≡ true → byTrigger (Level level) s c ≡ Load (loadedFor s c level) ∷ []
@@ -125,15 +127,16 @@ trigger-load s c level = go (loadsAt (countdown s c level))
     go false e = absurd (true≢false (sym e))
 
 module _ (st : State) (h : Levels st) where
-  named-counting : (c : ℕ) → c < 4 → loadAmong (inTick st c) ≡ true → inTick st c ≡ Load (loadedFor (st .settings) c (readBack (advanced st) 0x4210)) ∷ []
-  named-counting c i e =
-      counting-load (st .settings) (st .tables) c (channelOf (st .card) c) (channelOf (st .card) c .phase) e
+  named-counting : (waves : List ℕ) (c : ℕ) → c < 4 → loadAmong (inTick waves st c) ≡ true
+      → inTick waves st c ≡ Load (loadedFor (st .settings) c (readBack (advanced waves st) 0x4210)) ∷ []
+  named-counting waves c i e =
+      counting-load waves (st .settings) (st .tables) c (channelOf (st .card) c) (channelOf (st .card) c .phase) e
       ∙ ap (λ (level : ℕ). Load (loadedFor (st .settings) c level) ∷ []) (h .same c i ∙ sym shown)
     where
-      shown : readBack (advanced st) 0x4210 ≡ st .card .pending .level
+      shown : readBack (advanced waves st) 0x4210 ≡ st .card .pending .level
       shown =
-          ap (λ (t : Cause). t .level) (reads (advanced st) ∙ advanced-active st)
-          ∙ rw (some-one (λ d. loadAmong (inTick st d)) c i e)
+          ap (λ (t : Cause). t .level) (reads (advanced waves st) ∙ advanced-active waves st)
+          ∙ rw (some-one (λ d. loadAmong (inTick waves st d)) c i e)
 
   named-trigger : (x : Act) (c : ℕ) → c < 4 → loadAmong (atTrigger st x c) ≡ true
       → atTrigger st x c ≡ Load (loadedFor (st .settings) c (readBack (act st x) 0x4210)) ∷ []

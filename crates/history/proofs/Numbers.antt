@@ -60,7 +60,7 @@ unfolding channelRows
 output-alone c h q e =
     let d : (base c + 0xA04) / 0x1000 ≡ c = omega arith in
     let m : (base c + 0xA04) % 0x1000 ≡ 0xA04 = omega arith in
-    let f = found 0 channelRows channel-ordered 8 0xA04 (omega arith) (omega arith) (omega arith) in
+    let f = found 0 channelRows channel-ordered 13 0xA04 (omega arith) (omega arith) (omega arith) in
     first-is (rw (in-channel (base c + 0xA04) (omega arith), d, m, f) at e)
   where
     first-is : {a : Access} → At (record { first = base c + 0xA04; last = base c + 0xA04; access = a }) ≡ At q → q .first ≡ base c + 0xA04

@@ -10,10 +10,9 @@ use lib.ListN.{length, set}
 use borrow.Author.Tests.{eqb-true, eqb-false}
 use Rattle.slots.specs.declared.Holder.the-variants.{Level, Nobody}
 use Rattle.slots.specs.Slots.{erased}
-use Rattle.channel.specs.Channel.{Side, side, runsOf}
+use Rattle.channel.specs.Channel.{Side, side, runsOf, outputTo, overflowCleared}
 use Rattle.card.specs.declared.Card.{Card}
 use Rattle.card.specs.Card.{State, state, channelOf, withChannel, withCount}
-use Rattle.transfer.specs.Word.{outputTo, overflowCleared}
 use Rattle.transfer.specs.Transfer.{writeOf}
 use Rattle.course.specs.Course as C
 use Rattle.course.proofs.Acts.{untimed-ramp}
@@ -84,7 +83,7 @@ module _ (c : ℕ) (inside : c < 4) (st : State) (four : length (st .card .chann
       many : length (new .channels) ≡ 4
       many = channel-many (st .card) d (overflowCleared (channelOf (st .card) d)) ∙ four
 
-      mine : c ≡ d → C.cleared (channelOf (st .card) c) ≡ channelOf new c
+      mine : c ≡ d → overflowCleared (channelOf (st .card) c) ≡ channelOf new c
       mine f = rw f (sym (channel-same (st .card) d (overflowCleared (channelOf (st .card) d)) (rw f at inside) four))
 
       go : (b : Bool) → eqb c d ≡ b → Part c st (state new (st .settings) (st .tables))

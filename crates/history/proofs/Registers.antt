@@ -47,7 +47,7 @@ channel-owns : All Owns channelRows
 unfolding channelRows
 channel-owns = (
   setting 128 _,
-  (setting 0 _, (setting 0 _, (setting 1 _, (setting 0 _, (setting 1 _, (setting 0 _, (setting 0 _, ((λ c o. refl), ((λ c o. refl), ((λ c o. refl), ((λ c o. refl), ((λ c o. refl), ((λ c o. refl), ((λ c o. refl), tt)))))))))))))),
+  (setting 0 _, (setting 0 _, (setting 1 _, (setting 0 _, (setting 1 _, (setting 0 _, (setting 0 _, (setting 0 _, (setting 0 _, (setting 0 _, (setting 0 _, (setting 0 _, ((λ c o. refl), ((λ c o. refl), ((λ c o. refl), ((λ c o. refl), ((λ c o. refl), ((λ c o. refl), ((λ c o. refl), tt))))))))))))))))))),
 )
 
 owned : (h : Hit) (c o : ℕ) → scan channelRows o ≡ h → Own c (namedIn h c o)
@@ -69,7 +69,7 @@ channel-short : All Short channelRows
 unfolding channelRows
 channel-short = (
   omega arith,
-  (omega arith, (omega arith, (omega arith, (omega arith, (omega arith, (omega arith, (omega arith, (omega arith, (omega arith, (omega arith, (omega arith, (omega arith, (omega arith, (omega arith, tt)))))))))))))),
+  (omega arith, (omega arith, (omega arith, (omega arith, (omega arith, (omega arith, (omega arith, (omega arith, (omega arith, (omega arith, (omega arith, (omega arith, (omega arith, (omega arith, (omega arith, (omega arith, (omega arith, (omega arith, (omega arith, tt))))))))))))))))))),
 )
 
 ends : (h : Hit) (b o : ℕ) (q : Region) → scan channelRows o ≡ h → foundIn (raise b h) ≡ At q → q .last < b + 0x1000
@@ -123,7 +123,7 @@ channel-plain : All Plain channelRows
 unfolding channelRows
 channel-plain = (
   plain-row 128 _,
-  (plain-row 0 _, (plain-row 0 _, (plain-row 1 _, (plain-row 0 _, (plain-row 1 _, (plain-row 0 _, (plain-row 0 _, ((λ c o. refl), ((λ c o. refl), ((λ c o. refl), ((λ c o. refl), ((λ c o. refl), ((λ c o. refl), ((λ c o. refl), tt)))))))))))))),
+  (plain-row 0 _, (plain-row 0 _, (plain-row 1 _, (plain-row 0 _, (plain-row 1 _, (plain-row 0 _, (plain-row 0 _, (plain-row 0 _, (plain-row 0 _, (plain-row 0 _, (plain-row 0 _, (plain-row 0 _, ((λ c o. refl), ((λ c o. refl), ((λ c o. refl), ((λ c o. refl), ((λ c o. refl), ((λ c o. refl), ((λ c o. refl), tt))))))))))))))))))),
 )
 
 card-plain : All Plain cardRows

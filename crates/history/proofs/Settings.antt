@@ -20,7 +20,7 @@ use Rattle.card.specs.Reset.{settingsReset, resetOf}
 use Rattle.card.proofs.Ticks.{trigger-settings, tick-settings}
 use Rattle.transfer.specs.Word.{effectOf, readAt}
 use Rattle.transfer.specs.Transfer.{writeOf}
-use Rattle.history.specs.History.{Act, Tick, Write, Read, Reset, act, acts, readBack, wordsDone}
+use Rattle.history.specs.History.{Act, Tick, Write, Read, HandIn, Reset, act, acts, readBack, wordsDone}
 use Rattle.history.specs.Effects.{isSetting, Does, Keeps, Outputs, ClearsOverflow, ClearsCount, Erases, Idles, Triggers}
 use Rattle.history.specs.Settings.{isSlot, isScale, resetWord, wordLeft, leftAt, lastWord, SettingsKept}
 use Rattle.map.proofs.Room.{named-below}
@@ -132,13 +132,14 @@ module _ (b : ℕ) (setting : isSetting (registerOf b) ≡ true) where
 
   acts-left : (st : State) (xs : List Act) (w : ℕ) → length (st .settings) ≡ 16960 → word (st .settings) b ≡ w → word (acts st xs .settings) b ≡ lastWord b st xs w
   acts-left st [] w l e = e
-  acts-left st (Tick event ∷ xs) w l e =
-      let t = tick-settings st event in
-      acts-left (act st (Tick event)) xs w (ap length t ∙ l) (ap (λ s. word s b) t ∙ e)
+  acts-left st (Tick waves event ∷ xs) w l e =
+      let t = tick-settings waves st event in
+      acts-left (act st (Tick waves event)) xs w (ap length t ∙ l) (ap (λ s. word s b) t ∙ e)
   acts-left st (Write start count ws ∷ xs) w l e =
       acts-left (act st (Write start count ws)) xs _ (write-length st start count ws ∙ l)
       (write-left st start count ws l ∙ ap (leftAt b start (wordsDone st start count ws)) e)
   acts-left st (Read start count ws ∷ xs) w l e = acts-left st xs w l e
+  acts-left st (HandIn to ws ∷ xs) w l e = acts-left st xs w l e
   acts-left st (Reset ∷ xs) w l e = acts-left (act st Reset) xs (resetWord b) (reset-length (st .settings) ∙ l) (reset-left (st .settings) l)
 
   pub setting-reads : (st : State) → readBack st b ≡ word (st .settings) b

@@ -1,7 +1,7 @@
 -- A reset makes a sound state, and ticks, events and writes keep it (`reachable`): the settings word by word, the channels one after the
 -- other, each over the tables that the one before left. Assumes nothing.
-use mathlib.Core.Path.{_≡_, refl, sym, _∙_}
-use mathlib.Core.Bool.{Bool, true, false, cond}
+use mathlib.Core.Path.{_≡_, refl, sym, _∙_, subst}
+use mathlib.Core.Bool.{Bool, true, false, cond, true≢false}
 use mathlib.Core.List.{List, [], _∷_}
 use Prim.Native.Nat.{ℕ, zero, suc, _+_, _<_}
 use native.Mathlib.Omega.{arith}
@@ -20,18 +20,19 @@ use Rattle.slots.specs.Slots.{holderOf}
 use Rattle.slots.proofs.Fills.{filled-length, filled-in}
 use Rattle.slots.proofs.Holders.{level-held}
 use Rattle.channel.specs.declared.Channel.{Channel}
-use Rattle.channel.specs.Channel.{Side, word, resetChannel, tickOf, triggered}
+use Rattle.channel.specs.Channel.{Side, word, resetChannel, tickOf, triggered, outputTo, overflowCleared}
 use Rattle.card.specs.declared.Card.{Card}
 use Rattle.card.specs.Card.{State, state, All, noChannel, channelOf, withChannel, countOf, withCount, withChannels, onAll}
 use Rattle.card.specs.Active.{cause, someLoaded}
 use Rattle.card.specs.Trigger.{counted, keeping, struck, triggerOf, acceptedOf, onEvent, eventOf}
 use Rattle.card.specs.Tick.{moved, advanced, tickWith, ticks}
+use Rattle.card.proofs.All.{two-passes}
 use Rattle.card.specs.Reset.{tablesReset, cardReset, resetOf}
 use Rattle.transfer.specs.declared.Effect.the-variants.{Keep, Output, Erase, Nothing}
-use Rattle.transfer.specs.Word.{effectOf, outputTo, overflowCleared, performOf}
+use Rattle.transfer.specs.Word.{effectOf, performOf}
 use Rattle.transfer.specs.Transfer.{processedOf, writeOf}
 use Rattle.course.proofs.Copies.{choose}
-use Rattle.history.specs.History.{Act, Tick, Write, Read, Reset, acts, Each, Words16}
+use Rattle.history.specs.History.{Act, Tick, Write, Read, HandIn, Reset, acts, Each, Words16}
 use Rattle.history.specs.Sound.{Tables, ChannelSound, CauseSound, Sound, Reachable}
 use Rattle.history.proofs.Addresses.{slot-register}
 use Rattle.history.proofs.Words.{Passed, set-word, stored, erased-words, reset-words}
@@ -49,7 +50,10 @@ no-channel-sound =
       table = omega arith;
       scale = omega arith;
       offset = omega arith;
-      shown = record { output = omega arith; segment = omega arith; left = omega arith; overflow = omega arith };
+      tone = record { mode = refl; frequency = omega arith; phase = omega arith };
+      free = λ e. absurd (true≢false (sym e));
+      shown = record { amplitude = omega arith; segment = omega arith; left = omega arith };
+      signal = record { output = omega arith; overflow = omega arith; counter = omega arith };
     }
 
 four-sound : (k : Card) (a b c d : Channel) → ChannelSound a → ChannelSound b → ChannelSound c → ChannelSound d
@@ -64,15 +68,15 @@ four-sound k a b c d p q r s (suc (suc (suc (suc n)))) = go (ltb (suc (suc (suc 
     go true = no-channel-sound
     go false = no-channel-sound
 
+record AllSound (k : Card) (x : All) : Type 0 where
+  four : length (x .channels) ≡ 4
+  channels : (j : ℕ) → ChannelSound (channelOf (withChannels k (x .channels)) j)
+  tables : Tables (x .tables)
+
 -- what keeps each channel sound keeps all four
 module _ (f : ℕ → List ℕ → Channel → Side)
     (keep : (c : ℕ) → c < 4 → (l : List ℕ) (ch : Channel) → ChannelSound ch → Tables l → SideSound (f c l ch)) (k : Card) (l : List ℕ) where
-  record AllSound (x : All) : Type 0 where
-    four : length (x .channels) ≡ 4
-    channels : (j : ℕ) → ChannelSound (channelOf (withChannels k (x .channels)) j)
-    tables : Tables (x .tables)
-
-  all-sound : ((c : ℕ) → ChannelSound (channelOf k c)) → Tables l → AllSound (onAll f k l)
+  all-sound : ((c : ℕ) → ChannelSound (channelOf k c)) → Tables l → AllSound k (onAll f k l)
   unfolding onAll
   all-sound h t =
       let a = keep 0 (omega arith) l (channelOf k 0) (h 0) t in
@@ -98,10 +102,12 @@ grown-word : (n : ℕ) → grown n < 65536
 grown-word n = mod-lt (n + 1) (omega arith)
 
 module _ (st : State) (h : Sound st) where
-  advanced-sound : Sound (advanced st)
+  advanced-sound : (waves : List ℕ) → Sound (advanced waves st)
   unfolding advanced
-  advanced-sound =
-      let a = all-sound (λ c l ch. tickOf (st .settings) l c ch) (λ c i l ch g t. tick-sound (st .settings) (h .settings) l c i ch g t) (st .card) (st .tables) (h .card .channels) (h .tables) in
+  advanced-sound waves =
+      let a : AllSound (st .card) (moved waves st) =
+      subst (AllSound (st .card)) (sym (two-passes waves st))
+      (all-sound (λ c l ch. tickOf (st .settings) waves l c ch) (λ c i l ch g t. tick-sound (st .settings) (h .settings) l c i ch g t waves) (st .card) (st .tables) (h .card .channels) (h .tables)) in
       record {
         settings = h .settings;
         tables = a .tables;
@@ -111,7 +117,7 @@ module _ (st : State) (h : Sound st) where
               channels = a .channels;
               many = h .card .many;
               counts = h .card .counts;
-              active = choose CauseSound (someLoaded (withChannels (st .card) (moved st .channels))) _ _ (h .card .pending) (h .card .active);
+              active = choose CauseSound (someLoaded (withChannels (st .card) (moved waves st .channels))) _ _ (h .card .pending) (h .card .active);
               pending = h .card .pending;
             };
       }
@@ -214,7 +220,10 @@ module _ (st : State) (h : Sound st) where
         table = g .table;
         scale = g .scale;
         offset = g .offset;
-        shown = record { output = i; segment = g .shown .segment; left = g .shown .left; overflow = g .shown .overflow };
+        tone = g .tone;
+        free = g .free;
+        shown = record { amplitude = i; segment = g .shown .segment; left = g .shown .left };
+        signal = record { output = i; overflow = g .signal .overflow; counter = g .signal .counter };
       }
 
   overflow-sound : (ch : Channel) → ChannelSound ch → ChannelSound (overflowCleared ch)
@@ -225,7 +234,10 @@ module _ (st : State) (h : Sound st) where
         table = g .table;
         scale = g .scale;
         offset = g .offset;
-        shown = record { output = g .shown .output; segment = g .shown .segment; left = g .shown .left; overflow = omega arith };
+        tone = g .tone;
+        free = g .free;
+        shown = g .shown;
+        signal = record { output = g .signal .output; overflow = omega arith; counter = g .signal .counter };
       }
 
   stored-sound : (a v : ℕ) → v < 65536 → Passed (st .settings) (st .card) (registerOf a) v → Sound (performOf st a (Keep v))
@@ -277,7 +289,10 @@ reset-sound s l p q =
           table = omega arith;
           scale = omega arith;
           offset = omega arith;
-          shown = record { output = omega arith; segment = omega arith; left = omega arith; overflow = omega arith };
+          tone = record { mode = refl; frequency = omega arith; phase = omega arith };
+          free = λ e. absurd (true≢false (sym e));
+          shown = record { amplitude = omega arith; segment = omega arith; left = omega arith };
+          signal = record { output = omega arith; overflow = omega arith; counter = omega arith };
         }
 
     counts : (j : ℕ) (b : Bool) → ltb j 32 ≡ b → cond b (getD (replicate 32 0) j 0) 0 < 65536
@@ -290,10 +305,10 @@ reset-sound s l p q =
         let d = ltb-false i 512 e in
         rw (List·getD-eq-default (tablesReset l) 0 {n = i} (omega (arith, filled-length 512 l 0 0))) (omega arith)
 
-ticks-sound : (n : ℕ) (st : State) → Sound st → Sound (ticks n st)
+ticks-sound : (waves : List ℕ) (n : ℕ) (st : State) → Sound st → Sound (ticks waves n st)
 unfolding ticks
-ticks-sound zero st h = h
-ticks-sound (suc n) st h = ticks-sound n (advanced st) (advanced-sound st h)
+ticks-sound waves zero st h = h
+ticks-sound waves (suc n) st h = ticks-sound waves n (advanced waves st) (advanced-sound st h waves)
 
 each-take : (Q : ℕ → Type 0) (n : ℕ) (vs : List ℕ) → Each Q vs → Each Q (take n vs)
 each-take Q zero vs e = tt
@@ -306,14 +321,15 @@ write-sound st start count ws w h =
     (λ x a v vs z p r w h. r (w .1) (done-sound x h (registerOf a) a v refl (w .0) p))
     st start count ws (each-take (λ v. v < 65536) (processedOf (writeOf st start count ws .answer)) ws w) h
 
-tick-sound-card : (st : State) (event : ℕ) → Sound st → Sound (tickWith st event)
-tick-sound-card st event h = event-sound (advanced st) (advanced-sound st h) event
+tick-sound-card : (waves : List ℕ) (st : State) (event : ℕ) → Sound st → Sound (tickWith waves st event)
+tick-sound-card waves st event h = event-sound (advanced waves st) (advanced-sound st h waves) event
 
 acts-sound : (st : State) (xs : List Act) → Words16 xs → Sound st → Sound (acts st xs)
 acts-sound st [] w h = h
-acts-sound st (Tick event ∷ xs) w h = acts-sound (tickWith st event) xs w (tick-sound-card st event h)
+acts-sound st (Tick waves event ∷ xs) w h = acts-sound (tickWith waves st event) xs w (tick-sound-card waves st event h)
 acts-sound st (Write start count ws ∷ xs) w h = acts-sound (writeOf st start count ws .state) xs (w .1) (write-sound st start count ws (w .0) h)
 acts-sound st (Read start count ws ∷ xs) w h = acts-sound st xs w h
+acts-sound st (HandIn to ws ∷ xs) w h = acts-sound st xs (w .1) h
 acts-sound st (Reset ∷ xs) w h =
     acts-sound (resetOf (st .settings) (st .tables)) xs w (reset-sound (st .settings) (st .tables) (h .settings .many) (h .tables .many))
 

@@ -173,7 +173,12 @@ zero-setting S.Scale = refl
 zero-setting S.OffsetMap = refl
 zero-setting S.Offset = refl
 zero-setting S.Delay = refl
+zero-setting S.FrequencyMap = refl
+zero-setting S.Frequency = refl
+zero-setting S.PhaseMap = refl
+zero-setting S.Phase = refl
 zero-setting S.WaveformEnable = refl
+zero-setting S.WaveformMode = refl
 zero-setting S.ClockEnable = refl
 
 zero-allowed : (r : Register) → Kept r → allowed r 0 ≡ true

@@ -28,73 +28,73 @@ pub kept-is : (st : State) (l : List ℕ) (h : ℕ) (x : List ℕ) (b : ℕ)
 unfolding kept
 kept-is st l h x b = kept-cond (ltb h most) st (set l h b) l (h + 1) h x
 
-byte-cond : (q : Bool) (t : Flow) (b : ℕ) → cond q (ended t) (kept t b) ≡ after (t .text) (cond q (ended (bare t)) (kept (bare t) b))
+byte-cond : (w : List ℕ) (q : Bool) (t : Flow) (b : ℕ) → cond q (ended w t) (kept t b) ≡ after (t .text) (cond q (ended w (bare t)) (kept (bare t) b))
 unfolding ended
-byte-cond true t b = refl
-byte-cond false t b =
+byte-cond w true t b = refl
+byte-cond w false t b =
     kept-is (t .state) (t .line) (t .held) (t .text) b
     ∙ ap (λ (y : List ℕ). flow (t .state) (cond (ltb (t .held) most) (set (t .line) (t .held) b) (t .line)) (cond (ltb (t .held) most) (t .held + 1) (t .held)) y) (sym (append-nil (t .text)))
     ∙ ap (after (t .text)) (sym (kept-is (t .state) (t .line) (t .held) [] b))
 
 -- a byte's answer comes after those before it
-pub byte-after : (t : Flow) (b : ℕ) → byteOf t b ≡ after (t .text) (byteOf (bare t) b)
+pub byte-after : (w : List ℕ) (t : Flow) (b : ℕ) → byteOf w t b ≡ after (t .text) (byteOf w (bare t) b)
 unfolding byteOf
-byte-after t b = byte-cond (eqb b 10) t b
+byte-after w t b = byte-cond w (eqb b 10) t b
 
 -- ---- the two kinds of byte
 
-pub byte-ends : (t : Flow) (b : ℕ) → b ≡ 10 → byteOf t b ≡ ended t
+pub byte-ends : (w : List ℕ) (t : Flow) (b : ℕ) → b ≡ 10 → byteOf w t b ≡ ended w t
 unfolding byteOf
-byte-ends t b e = rw (eq-eqb b 10 e)
+byte-ends w t b e = rw (eq-eqb b 10 e)
 
-pub byte-keeps : (t : Flow) (b : ℕ) → (b ≡ 10 → ⊥) → byteOf t b ≡ kept t b
+pub byte-keeps : (w : List ℕ) (t : Flow) (b : ℕ) → (b ≡ 10 → ⊥) → byteOf w t b ≡ kept t b
 unfolding byteOf
-byte-keeps t b e = rw (ne-eqb b 10 e)
+byte-keeps w t b e = rw (ne-eqb b 10 e)
 
-pub keeps-feeds : (S L l l′ o : List ℕ) (b n end : ℕ) (k : Card) (h : ℕ) → (b ≡ 10 → ⊥) → Keeps l h b l′ n
-    → Feeds (byteOf (flow (state k S L) l h []) b) end o o S L l′ k n end
-keeps-feeds S L l l′ o b n end k h e q =
-    rw (byte-keeps (flow (state k S L) l h []) b e, kept-is (state k S L) l h [] b)
+pub keeps-feeds : (w S L l l′ o : List ℕ) (b n end : ℕ) (k : Card) (h : ℕ) → (b ≡ 10 → ⊥) → Keeps l h b l′ n
+    → Feeds (byteOf w (flow (state k S L) l h []) b) end o o S L l′ k n end
+keeps-feeds w S L l l′ o b n end k h e q =
+    rw (byte-keeps w (flow (state k S L) l h []) b e, kept-is (state k S L) l h [] b)
     (record { same = refl; lined = q .lined; holds = q .holds; atMost = q .atMost; buffer = refl; ends = omega arith })
 
 -- ---- bytes one after the other
 
 -- what is fed in two parts is fed in one
-pub feed-append : (t : Flow) (a b : List ℕ) → feedOf t (a ++ b) ≡ feedOf (feedOf t a) b
+pub feed-append : (w : List ℕ) (t : Flow) (a b : List ℕ) → feedOf w t (a ++ b) ≡ feedOf w (feedOf w t a) b
 unfolding feedOf
-feed-append t [] b = refl
-feed-append t (x ∷ a) b = feed-append (byteOf t x) a b
+feed-append w t [] b = refl
+feed-append w t (x ∷ a) b = feed-append w (byteOf w t x) a b
 
-pub feed-more : (t : Flow) (s : List ℕ) (i : ℕ) → i < length s → feedOf t (take (i + 1) s) ≡ byteOf (feedOf t (take i s)) (getD s i 0)
+pub feed-more : (w : List ℕ) (t : Flow) (s : List ℕ) (i : ℕ) → i < length s → feedOf w t (take (i + 1) s) ≡ byteOf w (feedOf w t (take i s)) (getD s i 0)
 unfolding feedOf
-feed-more t s i h =
-    ap (λ (k : ℕ). feedOf t (take k s)) (add-one i)
-    ∙ ap (feedOf t) (take-suc s i 0 h)
-    ∙ feed-append t (take i s) (getD s i 0 ∷ [])
+feed-more w t s i h =
+    ap (λ (k : ℕ). feedOf w t (take k s)) (add-one i)
+    ∙ ap (feedOf w t) (take-suc s i 0 h)
+    ∙ feed-append w t (take i s) (getD s i 0 ∷ [])
 
 -- the answers of a flow that goes on come after those before it
-pub feed-after : (s : List ℕ) (t : Flow) → feedOf t s ≡ after (t .text) (feedOf (bare t) s)
+pub feed-after : (w s : List ℕ) (t : Flow) → feedOf w t s ≡ after (t .text) (feedOf w (bare t) s)
 unfolding feedOf
-feed-after [] t = ap (λ (y : List ℕ). flow (t .state) (t .line) (t .held) y) (sym (append-nil (t .text)))
-feed-after (b ∷ s) t =
-    let u = byteOf (bare t) b in
-    ap (λ (k : Flow). feedOf k s) (byte-after t b)
-    ∙ feed-after s (after (t .text) u)
-    ∙ ap (λ (y : List ℕ). flow (feedOf (bare u) s .state) (feedOf (bare u) s .line) (feedOf (bare u) s .held) y) (append-assoc (t .text) (u .text) (feedOf (bare u) s .text))
-    ∙ ap (after (t .text)) (sym (feed-after s u))
+feed-after w [] t = ap (λ (y : List ℕ). flow (t .state) (t .line) (t .held) y) (sym (append-nil (t .text)))
+feed-after w (b ∷ s) t =
+    let u = byteOf w (bare t) b in
+    ap (λ (k : Flow). feedOf w k s) (byte-after w t b)
+    ∙ feed-after w s (after (t .text) u)
+    ∙ ap (λ (y : List ℕ). flow (feedOf w (bare u) s .state) (feedOf w (bare u) s .line) (feedOf w (bare u) s .held) y) (append-assoc (t .text) (u .text) (feedOf w (bare u) s .text))
+    ∙ ap (after (t .text)) (sym (feed-after w s u))
 
 -- a turn of the loop that feeds
-pub feeds-more : (t : Flow) (b : ℕ) {o₀ o o′ S L l S′ L′ l′ : List ℕ} {k k′ : Card} {h h′ n n′ : ℕ}
+pub feeds-more : (w : List ℕ) (t : Flow) (b : ℕ) {o₀ o o′ S L l S′ L′ l′ : List ℕ} {k k′ : Card} {h h′ n n′ : ℕ}
     → Feeds t 0 o₀ o S L l k h n
-    → Feeds (byteOf (flow (state k S L) l h []) b) n o o′ S′ L′ l′ k′ h′ n′
-    → Feeds (byteOf t b) 0 o₀ o′ S′ L′ l′ k′ h′ n′
-feeds-more t b {o₀} {o} {o′} {S} {L} {l} {S′} {L′} {l′} {k} {k′} {h} {h′} {n} {n′} p q =
+    → Feeds (byteOf w (flow (state k S L) l h []) b) n o o′ S′ L′ l′ k′ h′ n′
+    → Feeds (byteOf w t b) 0 o₀ o′ S′ L′ l′ k′ h′ n′
+feeds-more w t b {o₀} {o} {o′} {S} {L} {l} {S′} {L′} {l′} {k} {k′} {h} {h′} {n} {n′} p q =
     let e : flow (state k S L) l h [] ≡ bare t =
-    ap (λ (w : State). flow w l h []) (p .same) ∙ ap (λ (x : List ℕ). flow (t .state) x h []) (p .lined)
+    ap (λ (y : State). flow y l h []) (p .same) ∙ ap (λ (x : List ℕ). flow (t .state) x h []) (p .lined)
     ∙ ap (λ (x : ℕ). flow (t .state) (t .line) x []) (p .holds) in
-    let f : byteOf (flow (state k S L) l h []) b ≡ byteOf (bare t) b = ap (λ (x : Flow). byteOf x b) e in
-    let m = byteOf (bare t) b in
-    rw (byte-after t b)
+    let f : byteOf w (flow (state k S L) l h []) b ≡ byteOf w (bare t) b = ap (λ (x : Flow). byteOf w x b) e in
+    let m = byteOf w (bare t) b in
+    rw (byte-after w t b)
     (record {
       same = q .same ∙ ap (λ (x : Flow). x .state) f;
       lined = q .lined ∙ ap (λ (x : Flow). x .line) f;
@@ -107,57 +107,57 @@ feeds-more t b {o₀} {o} {o′} {S} {L} {l} {S′} {L′} {l′} {k} {k′} {h}
 -- ---- how many bytes are taken
 
 -- none taken of none
-pub taken-none : (room : ℕ) (t : Flow) (s : List ℕ) (i : ℕ) → length s ≤ i → takenOf room t (drop i s) ≡ 0
+pub taken-none : (w : List ℕ) (room : ℕ) (t : Flow) (s : List ℕ) (i : ℕ) → length s ≤ i → takenOf w room t (drop i s) ≡ 0
 unfolding takenOf
-taken-none room t s i h = ap (takenOf room t) (drop-of-length-le s {i = i} h)
+taken-none w room t s i h = ap (takenOf w room t) (drop-of-length-le s {i = i} h)
 
 -- one more: the flow so far has room for its answer
-pub taken-more : (room : ℕ) (t : Flow) (s : List ℕ) (i : ℕ) → i < length s → length (t .text) + longest ≤ room
-    → takenOf room t (drop i s) ≡ suc (takenOf room (byteOf t (getD s i 0)) (drop (i + 1) s))
+pub taken-more : (w : List ℕ) (room : ℕ) (t : Flow) (s : List ℕ) (i : ℕ) → i < length s → length (t .text) + longest ≤ room
+    → takenOf w room t (drop i s) ≡ suc (takenOf w room (byteOf w t (getD s i 0)) (drop (i + 1) s))
 unfolding takenOf
-taken-more room t s i h r =
-    ap (takenOf room t) (drop-cons s i 0 h)
-    ∙ rw (le-leb (length (t .text) + longest) room r) (ap (λ (j : ℕ). suc (takenOf room (byteOf t (getD s i 0)) (drop j s))) (sym (add-one i)))
+taken-more w room t s i h r =
+    ap (takenOf w room t) (drop-cons s i 0 h)
+    ∙ rw (le-leb (length (t .text) + longest) room r) (ap (λ (j : ℕ). suc (takenOf w room (byteOf w t (getD s i 0)) (drop j s))) (sym (add-one i)))
 
 -- no room
-pub taken-stop : (room : ℕ) (t : Flow) (s : List ℕ) (i : ℕ) → i < length s → room < length (t .text) + longest → takenOf room t (drop i s) ≡ 0
+pub taken-stop : (w : List ℕ) (room : ℕ) (t : Flow) (s : List ℕ) (i : ℕ) → i < length s → room < length (t .text) + longest → takenOf w room t (drop i s) ≡ 0
 unfolding takenOf
-taken-stop room t s i h r = ap (takenOf room t) (drop-cons s i 0 h) ∙ rw (lt-leb (length (t .text) + longest) room r)
+taken-stop w room t s i h r = ap (takenOf w room t) (drop-cons s i 0 h) ∙ rw (lt-leb (length (t .text) + longest) room r)
 
 -- a turn of the loop that feeds: one more is taken
-pub taken-turn : (room : ℕ) (t : Flow) (s : List ℕ) (i : ℕ) → i < length s → length (feedOf t (take i s) .text) + longest ≤ room
-    → takenOf room t s ≡ i + takenOf room (feedOf t (take i s)) (drop i s)
-    → takenOf room t s ≡ i + 1 + takenOf room (feedOf t (take (i + 1) s)) (drop (i + 1) s)
-taken-turn room t s i h r e =
-    e ∙ omega (arith, taken-more room (feedOf t (take i s)) s i h r, ap (λ (u : Flow). takenOf room u (drop (i + 1) s)) (feed-more t s i h))
+pub taken-turn : (w : List ℕ) (room : ℕ) (t : Flow) (s : List ℕ) (i : ℕ) → i < length s → length (feedOf w t (take i s) .text) + longest ≤ room
+    → takenOf w room t s ≡ i + takenOf w room (feedOf w t (take i s)) (drop i s)
+    → takenOf w room t s ≡ i + 1 + takenOf w room (feedOf w t (take (i + 1) s)) (drop (i + 1) s)
+taken-turn w room t s i h r e =
+    e ∙ omega (arith, taken-more w room (feedOf w t (take i s)) s i h r, ap (λ (u : Flow). takenOf w room u (drop (i + 1) s)) (feed-more w t s i h))
 
 taken-cond : (q : Bool) (n m : ℕ) → n ≤ m → cond q (suc n) 0 ≤ suc m
 taken-cond true n m h = omega arith
 taken-cond false n m h = omega arith
 
 -- no more is taken than there is, and where there is room for an answer, something is
-pub taken-most : (room : ℕ) (s : List ℕ) (t : Flow) → takenOf room t s ≤ length s
+pub taken-most : (w : List ℕ) (room : ℕ) (s : List ℕ) (t : Flow) → takenOf w room t s ≤ length s
 unfolding takenOf
-taken-most room [] t = omega arith
-taken-most room (b ∷ s) t = taken-cond (leb (length (t .text) + longest) room) _ (length s) (taken-most room s (byteOf t b))
+taken-most w room [] t = omega arith
+taken-most w room (b ∷ s) t = taken-cond (leb (length (t .text) + longest) room) _ (length s) (taken-most w room s (byteOf w t b))
 
-pub taken-some : (room : ℕ) (t : Flow) (s : List ℕ) → t .text ≡ [] → longest ≤ room → 0 < length s → 0 < takenOf room t s
+pub taken-some : (w : List ℕ) (room : ℕ) (t : Flow) (s : List ℕ) → t .text ≡ [] → longest ≤ room → 0 < length s → 0 < takenOf w room t s
 unfolding takenOf
-taken-some room t [] e r h = h
-taken-some room t (b ∷ s) e r h =
+taken-some w room t [] e r h = h
+taken-some w room t (b ∷ s) e r h =
     let n : length (t .text) + longest ≤ room = omega (arith, ap length e) in
     rw (le-leb (length (t .text) + longest) room n) (omega arith)
 
 -- ---- the end of a line, and of the input
 
-pub end-feeds : (st : State) (l : List ℕ) (held n at : ℕ) {a : Answered} {o o₁ o₂ s t : List ℕ}
-    → n ≡ min held (length l) → Answers (stepOf st (take n l)) at o o₁ s t a → o₂ ≡ set o₁ (a .end) 10
-    → Feeds (ended (flow st l held [])) at o o₂ s t l (a .card) 0 (a .end + 1) × (a .end + 1 ≤ at + longest)
+pub end-feeds : (w : List ℕ) (st : State) (l : List ℕ) (held n at : ℕ) {a : Answered} {o o₁ o₂ s t : List ℕ}
+    → n ≡ min held (length l) → Answers (stepOf w st (take n l)) at o o₁ s t a → o₂ ≡ set o₁ (a .end) 10
+    → Feeds (ended w (flow st l held [])) at o o₂ s t l (a .card) 0 (a .end + 1) × (a .end + 1 ≤ at + longest)
 unfolding ended
-end-feeds st l held n at {a} {o} {o₁} {o₂} {s} {t} e A p =
+end-feeds w st l held n at {a} {o} {o₁} {o₂} {s} {t} e A p =
     let f : take n l ≡ take held l = ap (λ (k : ℕ). take k l) e ∙ take-min held l in
-    let B : Answers (stepOf st (take held l)) at o o₁ s t a = subst (λ (x : List ℕ). Answers (stepOf st x) at o o₁ s t a) f A in
-    let x : List ℕ = stepOf st (take held l) .text in (
+    let B : Answers (stepOf w st (take held l)) at o o₁ s t a = subst (λ (x : List ℕ). Answers (stepOf w st x) at o o₁ s t a) f A in
+    let x : List ℕ = stepOf w st (take held l) .text in (
       record {
         same = B .same;
         lined = refl;
@@ -175,14 +175,14 @@ pub unfed : (k : Card) (s t l o : List ℕ) (held : ℕ) {k′ : Card} {h h′ e
 unfed k s t l o held {k′} {h} {h′} {end} p q r e =
     record { same = ap (λ (x : Card). state x s t) p; lined = refl; holds = q ∙ e; atMost = omega arith; buffer = refl; ends = r }
 
-pub finish-none : (room : ℕ) (t : Flow) → t .held ≡ 0 → t ≡ finishOf room t
+pub finish-none : (w : List ℕ) (room : ℕ) (t : Flow) → t .held ≡ 0 → t ≡ finishOf w room t
 unfolding finishOf
-finish-none room t e = rw (eq-eqb (t .held) 0 e)
+finish-none w room t e = rw (eq-eqb (t .held) 0 e)
 
-pub finish-narrow : (room : ℕ) (t : Flow) → (t .held ≡ 0 → ⊥) → room < longest → t ≡ finishOf room t
+pub finish-narrow : (w : List ℕ) (room : ℕ) (t : Flow) → (t .held ≡ 0 → ⊥) → room < longest → t ≡ finishOf w room t
 unfolding finishOf
-finish-narrow room t e h = rw (ne-eqb (t .held) 0 e, lt-leb longest room h)
+finish-narrow w room t e h = rw (ne-eqb (t .held) 0 e, lt-leb longest room h)
 
-pub finish-ends : (room : ℕ) (t : Flow) → (t .held ≡ 0 → ⊥) → longest ≤ room → ended t ≡ finishOf room t
+pub finish-ends : (w : List ℕ) (room : ℕ) (t : Flow) → (t .held ≡ 0 → ⊥) → longest ≤ room → ended w t ≡ finishOf w room t
 unfolding finishOf
-finish-ends room t e h = rw (ne-eqb (t .held) 0 e, le-leb longest room h)
+finish-ends w room t e h = rw (ne-eqb (t .held) 0 e, le-leb longest room h)

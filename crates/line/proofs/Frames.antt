@@ -36,9 +36,9 @@ pub frame-other : (s : List ℕ) → allDigits s ≡ false → frameOf s ≡ Bad
 unfolding frameOf
 frame-other s h = rw h
 
-pub step-is : (st : State) (s : List ℕ) (f : Frame) → frameOf s ≡ f → stepOf st s ≡ onFrame st s f
+pub step-is : (w : List ℕ) (st : State) (s : List ℕ) (f : Frame) → frameOf s ≡ f → stepOf w st s ≡ onFrame w st s f
 unfolding stepOf
-step-is st s f e = ap (λ (g : Frame). onFrame st s g) e
+step-is w st s f e = ap (λ (g : Frame). onFrame w st s g) e
 
 -- ---- a frame's count is at most 64
 

@@ -13,7 +13,7 @@ use lib.Seq.{take-suc-set, take-all, take-append-le, length-take-le}
 use Rattle.digits.specs.Digits.{allDigits, byteAt, wordAt, hex2, hex4, hexAll}
 use Rattle.card.specs.declared.Card.{Card}
 use Rattle.card.specs.Card.{State, state}
-use Rattle.card.specs.Reset.{resetOf}
+use Rattle.card.specs.Reset.{wavesReset, resetOf}
 use Rattle.card.specs.Tick.{tickWith, ticks}
 use Rattle.transfer.specs.Transfer.{Out, Filled, numberOf, processedOf, writeOf, readOf}
 use Rattle.line.specs.declared.Frame.{Frame}
@@ -54,21 +54,21 @@ frame-long s h =
     (same-cond (eqb (byteAt s 0) 4) _ _ Bad (rw (ne-eqb _ _ n4)) refl))))
     refl
 
-clip-by : (st : State) (p : List ℕ) (q : Bool) → ltb most (length p) ≡ q → stepOf st (take most p) ≡ stepOf st p
-clip-by st p true e =
+clip-by : (w : List ℕ) (st : State) (p : List ℕ) (q : Bool) → ltb most (length p) ≡ q → stepOf w st (take most p) ≡ stepOf w st p
+clip-by w st p true e =
     let h : most < length p = ltb-true _ _ e in
     let k : most ≤ length (take most p) = omega (arith, length-take-le most p (omega arith)) in
-    step-is st (take most p) Bad (frame-long (take most p) k) ∙ sym (step-is st p Bad (frame-long p (omega arith)))
-clip-by st p false e = ap (stepOf st) (take-all most p (ltb-false _ _ e))
+    step-is w st (take most p) Bad (frame-long (take most p) k) ∙ sym (step-is w st p Bad (frame-long p (omega arith)))
+clip-by w st p false e = ap (stepOf w st) (take-all most p (ltb-false _ _ e))
 
 -- 263 KEPT BYTES DECIDE A LINE
-pub clip : (st : State) (p : List ℕ) → stepOf st (take most p) ≡ stepOf st p
-clip st p = clip-by st p _ refl
+pub clip : (w : List ℕ) (st : State) (p : List ℕ) → stepOf w st (take most p) ≡ stepOf w st p
+clip w st p = clip-by w st p _ refl
 
 -- and a longer line answers FF, and changes nothing
-pub long-line : (st : State) (p : List ℕ) → most ≤ length p → (stepOf st p .text ≡ 70 ∷ 70 ∷ []) × (stepOf st p .state ≡ st)
+pub long-line : (w : List ℕ) (st : State) (p : List ℕ) → most ≤ length p → (stepOf w st p .text ≡ 70 ∷ 70 ∷ []) × (stepOf w st p .state ≡ st)
 unfolding hex2
-long-line st p h = let e : stepOf st p ≡ onFrame st p Bad = step-is st p Bad (frame-long p h) in (ap (λ (d : Step). d .text) e, ap (λ (d : Step). d .state) e)
+long-line w st p h = let e : stepOf w st p ≡ onFrame w st p Bad = step-is w st p Bad (frame-long p h) in (ap (λ (d : Step). d .text) e, ap (λ (d : Step). d .state) e)
 
 -- ---- the buffer holds the line that has begun, up to 263 bytes of it
 
@@ -103,28 +103,28 @@ kept-by st l h x p b false e H =
     let j : most ≤ length p = omega arith in
     record { size = H .size; fits = H .fits; same = H .same ∙ sym (take-append-le most p (b ∷ []) j) }
 
-ended-holds : (t : Flow) (p : List ℕ) → Holds t p → Holds (ended t) []
+ended-holds : (w : List ℕ) (t : Flow) (p : List ℕ) → Holds t p → Holds (ended w t) []
 unfolding ended
-ended-holds t p H = record { size = H .size; fits = omega arith; same = refl }
+ended-holds w t p H = record { size = H .size; fits = omega arith; same = refl }
 
 -- ---- byte by byte
 
-ended-text : (t : Flow) (p : List ℕ) → Holds t p → (ended t .text ≡ t .text ++ (stepOf (t .state) p .text ++ 10 ∷ [])) × (ended t .state ≡ stepOf (t .state) p .state)
+ended-text : (w : List ℕ) (t : Flow) (p : List ℕ) → Holds t p → (ended w t .text ≡ t .text ++ (stepOf w (t .state) p .text ++ 10 ∷ [])) × (ended w t .state ≡ stepOf w (t .state) p .state)
 unfolding ended
-ended-text t p H =
-    let e : stepOf (t .state) (take (t .held) (t .line)) ≡ stepOf (t .state) p = ap (stepOf (t .state)) (H .same) ∙ clip (t .state) p in
+ended-text w t p H =
+    let e : stepOf w (t .state) (take (t .held) (t .line)) ≡ stepOf w (t .state) p = ap (stepOf w (t .state)) (H .same) ∙ clip w (t .state) p in
     (ap (λ (d : Step). t .text ++ (d .text ++ 10 ∷ [])) e, ap (λ (d : Step). d .state) e)
 
-finish-all : (room : ℕ) → longest ≤ room → (t : Flow) (p : List ℕ) → Holds t p → finishOf room t .text ≡ t .text ++ answersOf (t .state) (linesFrom p [])
+finish-all : (w : List ℕ) (room : ℕ) → longest ≤ room → (t : Flow) (p : List ℕ) → Holds t p → finishOf w room t .text ≡ t .text ++ answersOf w (t .state) (linesFrom p [])
 unfolding finishOf answersOf linesFrom
-finish-all room r t [] H =
+finish-all w room r t [] H =
     let z : t .held ≡ 0 = held-is t [] H in
     rw (eq-eqb (t .held) 0 z) (sym (append-nil (t .text)))
-finish-all room r t (a ∷ p) H =
+finish-all w room r t (a ∷ p) H =
     let n : t .held ≡ min most (suc (length p)) = held-is t (a ∷ p) H in
     let z : (t .held ≡ 0 → ⊥) = λ e. omega arith in
     rw (ne-eqb (t .held) 0 z, le-leb longest room r)
-    (ended-text t (a ∷ p) H .0
+    (ended-text w t (a ∷ p) H .0
     ∙ ap (λ (y : List ℕ). t .text ++ y) (sym (append-nil _)))
 
 module _ (st : State) (l : List ℕ) (h : ℕ) (x : List ℕ) where
@@ -137,82 +137,83 @@ module _ (st : State) (l : List ℕ) (h : ℕ) (x : List ℕ) where
   kept-state : (b : ℕ) → kept (flow st l h x) b .state ≡ st
   kept-state b = ap (λ (u : Flow). u .state) (kept-is st l h x b)
 
-module _ (room : ℕ) (r : longest ≤ room) where
+module _ (w : List ℕ) (room : ℕ) (r : longest ≤ room) where
   -- what the rest of the input gives, after a byte b
-  fed-by : (s : List ℕ) → ((t : Flow) (p : List ℕ) → Holds t p → finishOf room (feedOf t s) .text ≡ t .text ++ answersOf (t .state) (linesFrom p s))
+  fed-by : (s : List ℕ) → ((t : Flow) (p : List ℕ) → Holds t p → finishOf w room (feedOf w t s) .text ≡ t .text ++ answersOf w (t .state) (linesFrom p s))
       → (q : Bool) (b : ℕ) (t : Flow) (p : List ℕ) → Holds t p
-      → finishOf room (feedOf (cond q (ended t) (kept t b)) s) .text ≡ t .text ++ answersOf (t .state) (cond q (p ∷ linesFrom [] s) (linesFrom (p ++ b ∷ []) s))
+      → finishOf w room (feedOf w (cond q (ended w t) (kept t b)) s) .text ≡ t .text ++ answersOf w (t .state) (cond q (p ∷ linesFrom [] s) (linesFrom (p ++ b ∷ []) s))
   unfolding answersOf
   fed-by s ih true b t p H =
-      let e = ended-text t p H in
-      ih (ended t) [] (ended-holds t p H)
-      ∙ ap (λ (y : List ℕ). y ++ answersOf (ended t .state) (linesFrom [] s)) (e .0)
-      ∙ ap (λ (w : State). (t .text ++ (stepOf (t .state) p .text ++ 10 ∷ [])) ++ answersOf w (linesFrom [] s)) (e .1)
-      ∙ append-assoc (t .text) (stepOf (t .state) p .text ++ 10 ∷ []) (answersOf (stepOf (t .state) p .state) (linesFrom [] s))
+      let e = ended-text w t p H in
+      ih (ended w t) [] (ended-holds w t p H)
+      ∙ ap (λ (y : List ℕ). y ++ answersOf w (ended w t .state) (linesFrom [] s)) (e .0)
+      ∙ ap (λ (z : State). (t .text ++ (stepOf w (t .state) p .text ++ 10 ∷ [])) ++ answersOf w z (linesFrom [] s)) (e .1)
+      ∙ append-assoc (t .text) (stepOf w (t .state) p .text ++ 10 ∷ []) (answersOf w (stepOf w (t .state) p .state) (linesFrom [] s))
   fed-by s ih false b t p H =
       ih (kept t b) (p ++ b ∷ []) (kept-holds (t .state) (t .line) (t .held) (t .text) p b H)
-      ∙ ap (λ (y : List ℕ). y ++ answersOf (kept t b .state) (linesFrom (p ++ b ∷ []) s)) (kept-text (t .state) (t .line) (t .held) (t .text) b)
-      ∙ ap (λ (w : State). t .text ++ answersOf w (linesFrom (p ++ b ∷ []) s)) (kept-state (t .state) (t .line) (t .held) (t .text) b)
+      ∙ ap (λ (y : List ℕ). y ++ answersOf w (kept t b .state) (linesFrom (p ++ b ∷ []) s)) (kept-text (t .state) (t .line) (t .held) (t .text) b)
+      ∙ ap (λ (z : State). t .text ++ answersOf w z (linesFrom (p ++ b ∷ []) s)) (kept-state (t .state) (t .line) (t .held) (t .text) b)
 
-  fed-all : (s : List ℕ) (t : Flow) (p : List ℕ) → Holds t p → finishOf room (feedOf t s) .text ≡ t .text ++ answersOf (t .state) (linesFrom p s)
+  fed-all : (s : List ℕ) (t : Flow) (p : List ℕ) → Holds t p → finishOf w room (feedOf w t s) .text ≡ t .text ++ answersOf w (t .state) (linesFrom p s)
   unfolding feedOf byteOf linesFrom
-  fed-all [] t p H = finish-all room r t p H
+  fed-all [] t p H = finish-all w room r t p H
   fed-all (b ∷ s) t p H = fed-by s (fed-all s) (eqb b 10) b t p H
 
 -- ---- chunk by chunk
 
-finish-by : (q o : Bool) (t : Flow) → cond q t (cond o (ended t) t) .text ≡ t .text ++ cond q (bare t) (cond o (ended (bare t)) (bare t)) .text
+finish-by : (w : List ℕ) (q o : Bool) (t : Flow) → cond q t (cond o (ended w t) t) .text ≡ t .text ++ cond q (bare t) (cond o (ended w (bare t)) (bare t)) .text
 unfolding ended
-finish-by true o t = sym (append-nil (t .text))
-finish-by false true t = refl
-finish-by false false t = sym (append-nil (t .text))
+finish-by w true o t = sym (append-nil (t .text))
+finish-by w false true t = refl
+finish-by w false false t = sym (append-nil (t .text))
 
-finish-after : (room : ℕ) (t : Flow) → finishOf room t .text ≡ t .text ++ finishOf room (bare t) .text
+finish-after : (w : List ℕ) (room : ℕ) (t : Flow) → finishOf w room t .text ≡ t .text ++ finishOf w room (bare t) .text
 unfolding finishOf
-finish-after room t = finish-by (eqb (t .held) 0) (leb longest room) t
+finish-after w room t = finish-by w (eqb (t .held) 0) (leb longest room) t
 
 take-drop : (k : ℕ) (s : List ℕ) → take k s ++ drop k s ≡ s
 take-drop zero s = refl
 take-drop (suc k) [] = refl
 take-drop (suc k) (b ∷ s) = ap (λ (l : List ℕ). b ∷ l) (take-drop k s)
 
-module _ (room : ℕ) (r : longest ≤ room) where
+module _ (w : List ℕ) (room : ℕ) (r : longest ≤ room) where
   -- each call leaves less
-  shorter : (n : ℕ) (t : Flow) (s : List ℕ) → t .text ≡ [] → length s ≤ suc n → length (drop (takenOf room t s) s) ≤ n
-  shorter n t [] e h = omega (arith, length-drop {A = ℕ} (takenOf room t []) [])
+  shorter : (n : ℕ) (t : Flow) (s : List ℕ) → t .text ≡ [] → length s ≤ suc n → length (drop (takenOf w room t s) s) ≤ n
+  shorter n t [] e h = omega (arith, length-drop {A = ℕ} (takenOf w room t []) [])
   shorter n t (b ∷ s) e h =
       let z : 0 < suc (length s) = omega arith in
-      omega (arith, length-drop (takenOf room t (b ∷ s)) (b ∷ s), taken-some room t (b ∷ s) e r z)
+      omega (arith, length-drop (takenOf w room t (b ∷ s)) (b ∷ s), taken-some w room t (b ∷ s) e r z)
 
   -- A CHUNK FED AGAIN AND AGAIN, whatever the room for answers, is fed whole
-  pub serve-all : (n : ℕ) (t : Flow) (s : List ℕ) → length s ≤ n → serveOf n room t s ≡ feedOf t s
+  pub serve-all : (n : ℕ) (t : Flow) (s : List ℕ) → length s ≤ n → serveOf w n room t s ≡ feedOf w t s
   unfolding serveOf feedOf
   serve-all zero t [] h = refl
   serve-all zero t (b ∷ s) h = let z : ⊥ = omega arith in absurd z
   serve-all (suc n) t s h =
-      let k : ℕ = takenOf room (bare t) s in
-      serve-all n (after (t .text) (feedOf (bare t) (take k s))) (drop k s) (shorter n (bare t) s refl h)
-      ∙ ap (λ (x : Flow). feedOf x (drop k s)) (sym (feed-after (take k s) t))
-      ∙ sym (feed-append t (take k s) (drop k s))
-      ∙ ap (feedOf t) (take-drop k s)
+      let k : ℕ = takenOf w room (bare t) s in
+      serve-all n (after (t .text) (feedOf w (bare t) (take k s))) (drop k s) (shorter n (bare t) s refl h)
+      ∙ ap (λ (x : Flow). feedOf w x (drop k s)) (sym (feed-after w (take k s) t))
+      ∙ sym (feed-append w t (take k s) (drop k s))
+      ∙ ap (feedOf w t) (take-drop k s)
 
-  written-is : (cs : List (List ℕ)) (t : Flow) → writtenOf room t cs ≡ finishOf room (feedOf t (joined cs)) .text
+  written-is : (cs : List (List ℕ)) (t : Flow) → writtenOf w room t cs ≡ finishOf w room (feedOf w t (joined cs)) .text
   unfolding writtenOf joined feedOf
-  written-is [] t = sym (finish-after room t)
+  written-is [] t = sym (finish-after w room t)
   written-is (c ∷ cs) t =
       let z : length c ≤ length c = omega arith in
-      ap (λ (u : Flow). writtenOf room u cs) (serve-all (length c) t c z)
-      ∙ written-is cs (feedOf t c)
-      ∙ ap (λ (u : Flow). finishOf room u .text) (sym (feed-append t c (joined cs)))
+      ap (λ (u : Flow). writtenOf w room u cs) (serve-all (length c) t c z)
+      ∙ written-is cs (feedOf w t c)
+      ∙ ap (λ (u : Flow). finishOf w room u .text) (sym (feed-append w t c (joined cs)))
 
-  -- THE SESSION: whatever the chunks, what is written is the session's answers to the whole input; the open line has room for 263 bytes,
-  -- as every call's has by type
-  pub chunks-give-session : (cs : List (List ℕ)) (settings tables line : List ℕ) → most ≤ length line
-      → writtenOf room (flow (resetOf settings tables) line 0 []) cs ≡ session settings tables (joined cs)
-  unfolding session
-  chunks-give-session cs settings tables line h =
-      let t : Flow = flow (resetOf settings tables) line 0 [] in
-      written-is cs t ∙ fed-all room r (joined cs) t [] (record { size = h; fits = omega arith; same = refl })
+-- THE SESSION: whatever the chunks, what is written is the session's answers to the whole input; the open line has room for 263 bytes,
+-- as every call's has by type
+pub chunks-give-session : (room : ℕ) → longest ≤ room → (cs : List (List ℕ)) (settings tables waves line : List ℕ) → most ≤ length line
+    → writtenOf (wavesReset waves) room (flow (resetOf settings tables) line 0 []) cs ≡ session settings tables waves (joined cs)
+unfolding session
+chunks-give-session room r cs settings tables waves line h =
+    let w : List ℕ = wavesReset waves in
+    let t : Flow = flow (resetOf settings tables) line 0 [] in
+    written-is w room r cs t ∙ fed-all w room r (joined cs) t [] (record { size = h; fits = omega arith; same = refl })
 
 -- ---- one answer line for each line
 
@@ -254,30 +255,30 @@ ends-outputs : (name : ℕ) (k : Card) → endsIn (outputsText name k) ≡ 0
 unfolding outputsText
 ends-outputs name k = ends-append (hex2 name) (hexAll (outputsOf k)) ∙ omega (arith, ends-hex2 name, ends-hexAll (outputsOf k))
 
-ends-frame : (st : State) (s : List ℕ) (f : Frame) → endsIn (onFrame st s f .text) ≡ 0
-ends-frame st s (Write start n) = let o : Out = writeOf st start n (wordsOf n s) in ends-head 0x81 (numberOf (o .answer)) (processedOf (o .answer))
-ends-frame st s (Read start n) =
+ends-frame : (w : List ℕ) (st : State) (s : List ℕ) (f : Frame) → endsIn (onFrame w st s f .text) ≡ 0
+ends-frame w st s (Write start n) = let o : Out = writeOf st start n (wordsOf n s) in ends-head 0x81 (numberOf (o .answer)) (processedOf (o .answer))
+ends-frame w st s (Read start n) =
     let f : Filled = readOf (st .settings) (st .card) start n (replicate 64 0) in
     ends-read 0x82 (numberOf (f .answer)) (processedOf (f .answer)) (take (processedOf (f .answer)) (f .words))
-ends-frame st s (Ticks n) = ends-outputs 0x83 (ticks n st .card)
-ends-frame st s (Event e) = ends-outputs 0x84 (tickWith st e .card)
-ends-frame st s Bad = ends-hex2 0xFF
+ends-frame w st s (Ticks n) = ends-outputs 0x83 (ticks w n st .card)
+ends-frame w st s (Event e) = ends-outputs 0x84 (tickWith w st e .card)
+ends-frame w st s Bad = ends-hex2 0xFF
 
-ends-step : (st : State) (s : List ℕ) → endsIn (stepOf st s .text) ≡ 0
+ends-step : (w : List ℕ) (st : State) (s : List ℕ) → endsIn (stepOf w st s .text) ≡ 0
 unfolding stepOf
-ends-step st s = ends-frame st s (frameOf s)
+ends-step w st s = ends-frame w st s (frameOf s)
 
-pub ends-answers : (st : State) (ls : List (List ℕ)) → endsIn (answersOf st ls) ≡ length ls
+pub ends-answers : (w : List ℕ) (st : State) (ls : List (List ℕ)) → endsIn (answersOf w st ls) ≡ length ls
 unfolding answersOf endsIn
-ends-answers st [] = refl
-ends-answers st (l ∷ ls) =
-    ends-append (stepOf st l .text ++ 10 ∷ []) (answersOf (stepOf st l .state) ls)
-    ∙ omega (arith, ends-append (stepOf st l .text) (10 ∷ []), ends-step st l, ends-answers (stepOf st l .state) ls)
+ends-answers w st [] = refl
+ends-answers w st (l ∷ ls) =
+    ends-append (stepOf w st l .text ++ 10 ∷ []) (answersOf w (stepOf w st l .state) ls)
+    ∙ omega (arith, ends-append (stepOf w st l .text) (10 ∷ []), ends-step w st l, ends-answers w (stepOf w st l .state) ls)
 
 -- EACH LINE GETS AN ANSWER: as many answer lines as lines
-pub line-for-line : (settings tables s : List ℕ) → endsIn (session settings tables s) ≡ length (linesOf s)
+pub line-for-line : (settings tables waves s : List ℕ) → endsIn (session settings tables waves s) ≡ length (linesOf s)
 unfolding session
-line-for-line settings tables s = ends-answers (resetOf settings tables) (linesOf s)
+line-for-line settings tables waves s = ends-answers (wavesReset waves) (resetOf settings tables) (linesOf s)
 
 -- ---- the promises determine all that a caller sees
 
@@ -291,42 +292,42 @@ feeds-once : (d : Flow) (at : ℕ) (before a a′ s s′ l l′ n n′ : List �
     → Feeds d at before a s l n (r .card) (r .held) (r .end) → Feeds d at before a′ s′ l′ n′ (r′ .card) (r′ .held) (r′ .end) → r .taken ≡ r′ .taken
     → (a ≡ a′) × (s ≡ s′) × (l ≡ l′) × (n ≡ n′) × (r ≡ r′)
 feeds-once d at before a a′ s s′ l l′ n n′ r r′ f g t =
-    let w : state (r .card) s l ≡ state (r′ .card) s′ l′ = f .same ∙ sym (g .same) in
-    let c : r .card ≡ r′ .card = ap (λ (x : State). x .card) w in
+    let v : state (r .card) s l ≡ state (r′ .card) s′ l′ = f .same ∙ sym (g .same) in
+    let c : r .card ≡ r′ .card = ap (λ (x : State). x .card) v in
     let h : r .held ≡ r′ .held = f .holds ∙ sym (g .holds) in
     let e : r .end ≡ r′ .end = f .ends ∙ sym (g .ends) in (
       f .buffer ∙ sym (g .buffer),
-      ap (λ (x : State). x .settings) w,
-      ap (λ (x : State). x .tables) w,
+      ap (λ (x : State). x .settings) v,
+      ap (λ (x : State). x .tables) v,
       f .lined ∙ sym (g .lined),
       ap (λ (x : Card). streamOf x (r .held) (r .end) (r .taken)) c ∙ ap (λ (x : ℕ). streamOf (r′ .card) x (r .end) (r .taken)) h
           ∙ ap (λ (x : ℕ). streamOf (r′ .card) (r′ .held) x (r .taken)) e
           ∙ ap (λ (x : ℕ). streamOf (r′ .card) (r′ .held) (r′ .end) x) t,
     )
 
-pub fed-once : (t : Flow) (chunk before a a′ s s′ l l′ n n′ : List ℕ) (r r′ : Stream)
-    → Fed t chunk before a s l n r → Fed t chunk before a′ s′ l′ n′ r′ → (a ≡ a′) × (s ≡ s′) × (l ≡ l′) × (n ≡ n′) × (r ≡ r′)
-fed-once t chunk before a a′ s s′ l l′ n n′ r r′ f g =
+pub fed-once : (w : List ℕ) (t : Flow) (chunk before a a′ s s′ l l′ n n′ : List ℕ) (r r′ : Stream)
+    → Fed w t chunk before a s l n r → Fed w t chunk before a′ s′ l′ n′ r′ → (a ≡ a′) × (s ≡ s′) × (l ≡ l′) × (n ≡ n′) × (r ≡ r′)
+fed-once w t chunk before a a′ s s′ l l′ n n′ r r′ f g =
     let e : r .taken ≡ r′ .taken = f .took ∙ sym (g .took) in
-    feeds-once (feedOf t (take (r′ .taken) chunk)) 0 before a a′ s s′ l l′ n n′ r r′
-    (subst (λ (x : ℕ). Feeds (feedOf t (take x chunk)) 0 before a s l n (r .card) (r .held) (r .end)) e (f .feeds))
+    feeds-once (feedOf w t (take (r′ .taken) chunk)) 0 before a a′ s s′ l l′ n n′ r r′
+    (subst (λ (x : ℕ). Feeds (feedOf w t (take x chunk)) 0 before a s l n (r .card) (r .held) (r .end)) e (f .feeds))
     (g .feeds)
     e
 
-pub finished-once : (t : Flow) (before a a′ s s′ l l′ n n′ : List ℕ) (r r′ : Stream)
-    → Finished t before a s l n r → Finished t before a′ s′ l′ n′ r′ → (a ≡ a′) × (s ≡ s′) × (l ≡ l′) × (n ≡ n′) × (r ≡ r′)
-finished-once t before a a′ s s′ l l′ n n′ r r′ f g =
-    feeds-once (finishOf (length before) t) 0 before a a′ s s′ l l′ n n′ r r′ (f .feeds) (g .feeds) (f .took ∙ sym (g .took))
+pub finished-once : (w : List ℕ) (t : Flow) (before a a′ s s′ l l′ n n′ : List ℕ) (r r′ : Stream)
+    → Finished w t before a s l n r → Finished w t before a′ s′ l′ n′ r′ → (a ≡ a′) × (s ≡ s′) × (l ≡ l′) × (n ≡ n′) × (r ≡ r′)
+finished-once w t before a a′ s s′ l l′ n n′ r r′ f g =
+    feeds-once (finishOf w (length before) t) 0 before a a′ s s′ l l′ n n′ r r′ (f .feeds) (g .feeds) (f .took ∙ sym (g .took))
 
 pub answered-once : (d : Step) (at : ℕ) (before a a′ s s′ l l′ : List ℕ) (r r′ : Answered)
     → Answers d at before a s l r → Answers d at before a′ s′ l′ r′ → (a ≡ a′) × (s ≡ s′) × (l ≡ l′) × (r ≡ r′)
 answered-once d at before a a′ s s′ l l′ r r′ f g =
-    let w : state (r .card) s l ≡ state (r′ .card) s′ l′ = f .same ∙ sym (g .same) in
+    let v : state (r .card) s l ≡ state (r′ .card) s′ l′ = f .same ∙ sym (g .same) in
     let e : r .end ≡ r′ .end = f .puts .ends ∙ sym (g .puts .ends) in (
       f .puts .buffer ∙ sym (g .puts .buffer),
-      ap (λ (x : State). x .settings) w,
-      ap (λ (x : State). x .tables) w,
-      ap (λ (x : State). record { card = x .card; end = r .end }) w ∙ ap (λ (x : ℕ). record { card = r′ .card; end = x }) e,
+      ap (λ (x : State). x .settings) v,
+      ap (λ (x : State). x .tables) v,
+      ap (λ (x : State). record { card = x .card; end = r .end }) v ∙ ap (λ (x : ℕ). record { card = r′ .card; end = x }) e,
     )
 
 -- ---- a few lines, read
@@ -343,6 +344,6 @@ unfolding frameOf allDigits byteAt wordAt writeFrame readFrame ticksFrame eventF
 frames-read = (refl, refl, refl, refl, refl, refl)
 
 -- an empty line, a bad one and a last one with no LF have an answer each: LF, "G" LF, "03"
-pub bad-session : (settings tables : List ℕ) → session settings tables (10 ∷ 71 ∷ 10 ∷ 48 ∷ 51 ∷ []) ≡ 70 ∷ 70 ∷ 10 ∷ 70 ∷ 70 ∷ 10 ∷ 70 ∷ 70 ∷ 10 ∷ []
+pub bad-session : (settings tables waves : List ℕ) → session settings tables waves (10 ∷ 71 ∷ 10 ∷ 48 ∷ 51 ∷ []) ≡ 70 ∷ 70 ∷ 10 ∷ 70 ∷ 70 ∷ 10 ∷ 70 ∷ 70 ∷ 10 ∷ []
 unfolding session linesFrom answersOf stepOf frameOf allDigits byteAt wordAt ticksFrame hex2
-bad-session settings tables = refl
+bad-session settings tables waves = refl

@@ -55,7 +55,7 @@ returns c =
     let st : State = state (a .card) (a .settings .now) (a .tables .now) in
     let g = c .before .before .before .before .before .before .before .start .given in
     let e : frameOf (a .line .now) ≡ Write (g .0 .0) (g .0 .1 .0) = sym (c .before .before .before .before .before .before .before .before .before .parse .ensures) ∙ g .1 in
-    rw (step-is st (a .line .now) (Write (g .0 .0) (g .0 .1 .0)) e) (c .before .before .answer-write .ensures)
+    rw (step-is (a .waves .now) st (a .line .now) (Write (g .0 .0) (g .0 .1 .0)) e) (c .before .before .answer-write .ensures)
 
 same-length-2 : tie.Need-same-length-2
 same-length-2 c = search needs
@@ -66,7 +66,7 @@ returns-2 c =
     let st : State = state (a .card) (a .settings .now) (a .tables .now) in
     let g = c .before .before .before .before .before .before .start2 .given in
     let e : frameOf (a .line .now) ≡ Read (g .0 .0) (g .0 .1 .0) = sym (c .before .before .before .before .before .before .before .before .parse .ensures) ∙ g .1 in
-    rw (step-is st (a .line .now) (Read (g .0 .0) (g .0 .1 .0)) e) (record { same = refl; puts = c .before .before .answer-read .ensures })
+    rw (step-is (a .waves .now) st (a .line .now) (Read (g .0 .0) (g .0 .1 .0)) e) (record { same = refl; puts = c .before .before .answer-read .ensures })
 
 same-length-3 : tie.Need-same-length-3
 same-length-3 c = search needs
@@ -77,7 +77,7 @@ returns-3 c =
     let st : State = state (a .card) (a .settings .now) (a .tables .now) in
     let g = c .before .before .before .before .before .before .before .n .given in
     let e : frameOf (a .line .now) ≡ Ticks (g .0 .0) = sym (c .before .before .before .before .before .before .before .before .before .parse .ensures) ∙ g .1 in
-    rw (step-is st (a .line .now) (Ticks (g .0 .0)) e) (c .before .before .answer-ticks .ensures)
+    rw (step-is (a .waves .now) st (a .line .now) (Ticks (g .0 .0)) e) (c .before .before .answer-ticks .ensures)
 
 same-length-4 : tie.Need-same-length-4
 same-length-4 c = search needs
@@ -88,7 +88,7 @@ returns-4 c =
     let st : State = state (a .card) (a .settings .now) (a .tables .now) in
     let g = c .before .before .before .before .before .before .before .e .given in
     let e : frameOf (a .line .now) ≡ Event (g .0 .0) = sym (c .before .before .before .before .before .before .before .before .before .parse .ensures) ∙ g .1 in
-    rw (step-is st (a .line .now) (Event (g .0 .0)) e) (c .before .before .answer-event .ensures)
+    rw (step-is (a .waves .now) st (a .line .now) (Event (g .0 .0)) e) (c .before .before .answer-event .ensures)
 
 same-length-5 : tie.Need-same-length-5
 same-length-5 c = search needs
@@ -99,7 +99,7 @@ returns-5 c =
     let st : State = state (a .card) (a .settings .now) (a .tables .now) in
     let e : frameOf (a .line .now) ≡ Bad = sym (c .before .before .before .before .before .before .parse .ensures) ∙ c .before .before .before .before .enum-told .given .1 in
     let h = c .before .before .answer-bad .ensures in
-    rw (step-is st (a .line .now) Bad e) (record { same = ap (λ (k : Card). state k (a .settings .now) (a .tables .now)) (h .0); puts = h .1 })
+    rw (step-is (a .waves .now) st (a .line .now) Bad e) (record { same = ap (λ (k : Card). state k (a .settings .now) (a .tables .now)) (h .0); puts = h .1 })
 
 pub answer-spec : {M : Type 1} → statement M
 answer-spec =

@@ -22,7 +22,7 @@ returns c =
     let a = c .before .before .before .before .before .before .before .before .args in
     let st : State = state (a .card) (a .settings .now) (a .tables .now) in
     let r = c .before .before .before .before .tick .ensures in
-    ticked-answers (tickWith st (a .e)) 0x84 (a .at) (r .0) (r .1) (sym (tick-settings st (a .e))) (c .before .before .put-outputs .ensures)
+    ticked-answers (tickWith (a .waves .now) st (a .e)) 0x84 (a .at) (r .0) (r .1) (sym (tick-settings (a .waves .now) st (a .e))) (c .before .before .put-outputs .ensures)
 
 pub answer-event-spec : {M : Type 1} → statement M
 answer-event-spec = tie.close (tie.spec tick-requires put-outputs-requires same-length returns)

@@ -22,7 +22,7 @@ returns c =
     let a = c .before .before .before .before .before .before .before .before .args in
     let st : State = state (a .card) (a .settings .now) (a .tables .now) in
     let r = c .before .before .before .before .run .ensures in
-    ticked-answers (ticks (a .n) st) 0x83 (a .at) (r .0) (r .1) (sym (ticks-settings (a .n) st)) (c .before .before .put-outputs .ensures)
+    ticked-answers (ticks (a .waves .now) (a .n) st) 0x83 (a .at) (r .0) (r .1) (sym (ticks-settings (a .waves .now) (a .n) st)) (c .before .before .put-outputs .ensures)
 
 pub answer-ticks-spec : {M : Type 1} → statement M
 answer-ticks-spec = tie.close (tie.spec run-requires put-outputs-requires same-length returns)

@@ -19,8 +19,8 @@ answer-requires c κs = search needs
 put-requires : tie.Need-put-requires
 put-requires c κs = search needs
 
-add-t12 : tie.Need-add-t12
-add-t12 c = search needs
+add-t13 : tie.Need-add-t13
+add-t13 c = search needs
 
 same-length : tie.Need-same-length
 same-length c = search needs
@@ -29,7 +29,7 @@ returns : tie.Need-returns
 returns c =
     let a = c .before .before .before .before .before .before .before .before .before .before .before .before .before .before .before .args in
     let st : State = state (a .card) (a .settings .now) (a .tables .now) in
-    end-feeds st (a .line .now) (a .held) _ (a .at) (c .before .before .before .before .before .before .before .before .before .before .before .before .least .ensures .0) (c .before .before .before .before .before .before .before .answer .ensures) (c .before .before .before .put .ensures)
+    end-feeds (a .waves .now) st (a .line .now) (a .held) _ (a .at) (c .before .before .before .before .before .before .before .before .before .before .before .before .least .ensures .0) (c .before .before .before .before .before .before .before .answer .ensures) (c .before .before .before .put .ensures)
 
 pub end-line-spec : {M : Type 1} → statement M
 end-line-spec =
@@ -39,6 +39,6 @@ end-line-spec =
     slice-aggregate-answer
     answer-requires
     put-requires
-    add-t12
+    add-t13
     same-length
     returns)

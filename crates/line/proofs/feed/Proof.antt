@@ -14,11 +14,11 @@ use Rattle.line.proofs.feed.Statement.{statement}
 use Rattle.line.proofs.feed.Tie as tie
 
 abbrev Inv-loop : tie.InvT-loop
-Inv-loop settings₀ tables₀ line₀ out₀ held chunk k₀ h₀ end₀ i₀ settings tables line out k h end i =
-    (i ≤ length chunk) × Feeds (feedOf (opened k₀ settings₀ tables₀ line₀ held) (take i chunk)) 0 out₀ out settings tables line k h end × (end ≤ length out₀) × (length out ≡ length out₀) × (takenOf (length out₀) (opened k₀ settings₀ tables₀ line₀ held) chunk ≡ i + takenOf (length out₀) (feedOf (opened k₀ settings₀ tables₀ line₀ held) (take i chunk)) (drop i chunk))
+Inv-loop settings₀ tables₀ waves line₀ out₀ held chunk k₀ h₀ end₀ i₀ settings tables line out k h end i =
+    (i ≤ length chunk) × Feeds (feedOf waves (opened k₀ settings₀ tables₀ line₀ held) (take i chunk)) 0 out₀ out settings tables line k h end × (end ≤ length out₀) × (length out ≡ length out₀) × (takenOf waves (length out₀) (opened k₀ settings₀ tables₀ line₀ held) chunk ≡ i + takenOf waves (length out₀) (feedOf waves (opened k₀ settings₀ tables₀ line₀ held) (take i chunk)) (drop i chunk))
 
 abbrev μ-loop : tie.MeasureT-loop
-μ-loop settings₀ tables₀ line₀ out₀ held chunk k₀ h₀ end₀ i₀ settings tables line out k h end i = length chunk - i
+μ-loop settings₀ tables₀ waves line₀ out₀ held chunk k₀ h₀ end₀ i₀ settings tables line out k h end i = length chunk - i
 
 least-requires : tie.Need-least-requires Inv-loop μ-loop
 least-requires c κs = search needs
@@ -41,9 +41,9 @@ returns c =
     let l = c .before .before .before .loop in
     let a = c .before .before .before .before .before .before .before .args in
     let t : Flow = opened (a .card) (a .settings .now) (a .tables .now) (a .line .now) (a .held) in
-    let u : Flow = feedOf t (take (l .i) (a .chunk .now)) in
+    let u : Flow = feedOf (a .waves .now) t (take (l .i) (a .chunk .now)) in
     rw (c .reached .ensures)
-    (record { took = omega (arith, l .inv .4, taken-stop (length (a .out .now)) u (a .chunk .now) (l .i) (c .before .before .loop-test .taken) (omega (arith, l .inv .1 .ends, l .inv .3, c .before .if1 .taken))); feeds = l .inv .1; fits = l .inv .2 })
+    (record { took = omega (arith, l .inv .4, taken-stop (a .waves .now) (length (a .out .now)) u (a .chunk .now) (l .i) (c .before .before .loop-test .taken) (omega (arith, l .inv .1 .ends, l .inv .3, c .before .if1 .taken))); feeds = l .inv .1; fits = l .inv .2 })
 
 shared-slice-read-b : tie.Need-shared-slice-read-b Inv-loop μ-loop
 shared-slice-read-b c = search needs
@@ -65,9 +65,9 @@ loop-again c =
     let a = c .before .before .before .before .before .before .before .before .before .before .before .before .before .before .before .before .before .args in
     let t : Flow = opened (a .card) (a .settings .now) (a .tables .now) (a .line .now) (a .held) in
     let b : ℕ = getD (a .chunk .now) (l .i) 0 in
-    let u : Flow = feedOf t (take (l .i) (a .chunk .now)) in
+    let u : Flow = feedOf (a .waves .now) t (take (l .i) (a .chunk .now)) in
     let e = c .before .before .before .end-line .ensures in
-    (search needs, rw (feed-more t (a .chunk .now) (l .i) (c .before .before .before .before .before .before .before .before .before .before .before .before .loop-test .taken)) (feeds-more u b (l .inv .1) (rw (byte-ends (flow (state (l .k) (l .settings) (l .tables)) (l .line) (l .h) []) b (c .before .before .before .before .before .before .before .before .before .if2 .taken)) (e .0))), omega (arith, e .1, c .before .before .before .before .before .before .before .before .before .before .before .if1 .left, l .inv .3), c .before .before .before .end-line .kept .1 .1 .1 .0 ∙ l .inv .3, taken-turn (length (a .out .now)) t (a .chunk .now) (l .i) (c .before .before .before .before .before .before .before .before .before .before .before .before .loop-test .taken) (omega (arith, l .inv .1 .ends, l .inv .3, c .before .before .before .before .before .before .before .before .before .before .before .if1 .left)) (l .inv .4))
+    (search needs, rw (feed-more (a .waves .now) t (a .chunk .now) (l .i) (c .before .before .before .before .before .before .before .before .before .before .before .before .loop-test .taken)) (feeds-more (a .waves .now) u b (l .inv .1) (rw (byte-ends (a .waves .now) (flow (state (l .k) (l .settings) (l .tables)) (l .line) (l .h) []) b (c .before .before .before .before .before .before .before .before .before .if2 .taken)) (e .0))), omega (arith, e .1, c .before .before .before .before .before .before .before .before .before .before .before .if1 .left, l .inv .3), c .before .before .before .end-line .kept .1 .1 .1 .1 .0 ∙ l .inv .3, taken-turn (a .waves .now) (length (a .out .now)) t (a .chunk .now) (l .i) (c .before .before .before .before .before .before .before .before .before .before .before .before .loop-test .taken) (omega (arith, l .inv .1 .ends, l .inv .3, c .before .before .before .before .before .before .before .before .before .before .before .if1 .left)) (l .inv .4))
 
 keep-requires : tie.Need-keep-requires Inv-loop μ-loop
 keep-requires c κs =
@@ -83,8 +83,8 @@ loop-again-2 c =
     let a = c .before .before .before .before .before .before .before .before .before .before .args in
     let t : Flow = opened (a .card) (a .settings .now) (a .tables .now) (a .line .now) (a .held) in
     let b : ℕ = getD (a .chunk .now) (l .i) 0 in
-    let u : Flow = feedOf t (take (l .i) (a .chunk .now)) in
-    (search needs, rw (feed-more t (a .chunk .now) (l .i) (c .before .before .before .before .before .loop-test .taken)) (feeds-more u b (l .inv .1) (keeps-feeds (l .settings) (l .tables) (l .line) _ (l .out) b _ (l .end) (l .k) (l .h) (c .before .before .if2 .left) (c .keep .ensures))), l .inv .2, l .inv .3, taken-turn (length (a .out .now)) t (a .chunk .now) (l .i) (c .before .before .before .before .before .loop-test .taken) (omega (arith, l .inv .1 .ends, l .inv .3, c .before .before .before .before .if1 .left)) (l .inv .4))
+    let u : Flow = feedOf (a .waves .now) t (take (l .i) (a .chunk .now)) in
+    (search needs, rw (feed-more (a .waves .now) t (a .chunk .now) (l .i) (c .before .before .before .before .before .loop-test .taken)) (feeds-more (a .waves .now) u b (l .inv .1) (keeps-feeds (a .waves .now) (l .settings) (l .tables) (l .line) _ (l .out) b _ (l .end) (l .k) (l .h) (c .before .before .if2 .left) (c .keep .ensures))), l .inv .2, l .inv .3, taken-turn (a .waves .now) (length (a .out .now)) t (a .chunk .now) (l .i) (c .before .before .before .before .before .loop-test .taken) (omega (arith, l .inv .1 .ends, l .inv .3, c .before .before .before .before .if1 .left)) (l .inv .4))
 
 reached-requires-2 : tie.Need-reached-requires-2 Inv-loop μ-loop
 reached-requires-2 c κs = search needs
@@ -97,9 +97,9 @@ returns-2 c =
     let l = c .before .before .loop in
     let a = c .before .before .before .before .before .before .args in
     let t : Flow = opened (a .card) (a .settings .now) (a .tables .now) (a .line .now) (a .held) in
-    let u : Flow = feedOf t (take (l .i) (a .chunk .now)) in
+    let u : Flow = feedOf (a .waves .now) t (take (l .i) (a .chunk .now)) in
     rw (c .reached2 .ensures)
-    (record { took = omega (arith, l .inv .4, taken-none (length (a .out .now)) u (a .chunk .now) (l .i) (c .before .loop-test .left)); feeds = l .inv .1; fits = l .inv .2 })
+    (record { took = omega (arith, l .inv .4, taken-none (a .waves .now) (length (a .out .now)) u (a .chunk .now) (l .i) (c .before .loop-test .left)); feeds = l .inv .1; fits = l .inv .2 })
 
 pub feed-spec : {M : Type 1} → statement M
 feed-spec =

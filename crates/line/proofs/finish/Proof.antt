@@ -19,7 +19,7 @@ returns c =
     let a = c .before .before .before .before .args in
     let t : Flow = opened (a .card) (a .settings .now) (a .tables .now) (a .line .now) (a .held) in
     rw (c .reached .ensures)
-    (record { took = refl; feeds = rw (← finish-none (length (a .out .now)) t (sym (c .before .before .least .ensures .0) ∙ c .before .if1 .taken)) (unfed (a .card) (a .settings .now) (a .tables .now) (a .line .now) (a .out .now) (a .held) refl refl refl (c .before .before .least .ensures .0)); fits = omega arith })
+    (record { took = refl; feeds = rw (← finish-none (a .waves .now) (length (a .out .now)) t (sym (c .before .before .least .ensures .0) ∙ c .before .if1 .taken)) (unfed (a .card) (a .settings .now) (a .tables .now) (a .line .now) (a .out .now) (a .held) refl refl refl (c .before .before .least .ensures .0)); fits = omega arith })
 
 reached-requires-2 : tie.Need-reached-requires-2
 reached-requires-2 c κs = search needs
@@ -29,7 +29,7 @@ returns-2 c =
     let a = c .before .before .before .before .before .args in
     let t : Flow = opened (a .card) (a .settings .now) (a .tables .now) (a .line .now) (a .held) in
     rw (c .reached2 .ensures)
-    (record { took = refl; feeds = rw (← finish-narrow (length (a .out .now)) t (λ e. c .before .before .if1 .left (c .before .before .before .least .ensures .0 ∙ e)) (c .before .if2 .taken)) (unfed (a .card) (a .settings .now) (a .tables .now) (a .line .now) (a .out .now) (a .held) refl refl refl (c .before .before .before .least .ensures .0)); fits = omega arith })
+    (record { took = refl; feeds = rw (← finish-narrow (a .waves .now) (length (a .out .now)) t (λ e. c .before .before .if1 .left (c .before .before .before .least .ensures .0 ∙ e)) (c .before .if2 .taken)) (unfed (a .card) (a .settings .now) (a .tables .now) (a .line .now) (a .out .now) (a .held) refl refl refl (c .before .before .before .least .ensures .0)); fits = omega arith })
 
 end-line-requires : tie.Need-end-line-requires
 end-line-requires c κs = search needs
@@ -47,7 +47,7 @@ returns-3 c =
     let e = c .before .before .before .end-line .ensures in
     let h = c .before .before .before .before .before .before .before .before .before .before .least .ensures .0 in
     rw (c .reached3 .ensures)
-    (record { took = refl; feeds = rw (← finish-ends (length (a .out .now)) t (λ z. c .before .before .before .before .before .before .before .before .before .if1 .left (h ∙ z)) (c .before .before .before .before .before .before .before .before .if2 .left)) (rw h at (e .0)); fits = omega (arith, e .1, c .before .before .before .before .before .before .before .before .if2 .left) })
+    (record { took = refl; feeds = rw (← finish-ends (a .waves .now) (length (a .out .now)) t (λ z. c .before .before .before .before .before .before .before .before .before .if1 .left (h ∙ z)) (c .before .before .before .before .before .before .before .before .if2 .left)) (rw h at (e .0)); fits = omega (arith, e .1, c .before .before .before .before .before .before .before .before .if2 .left) })
 
 pub finish-spec : {M : Type 1} → statement M
 finish-spec =
