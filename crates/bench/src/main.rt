@@ -41,11 +41,12 @@ fn main() {
 fn serve(
     settings: &mut [u16; 16960],
     tables: &mut [u16; 512],
+    waves: &mut [u16; 4096],
     line: &mut [u8; 16395],
     chunk: &mut [u8; 65536],
     out: &mut [u8; 65536],
 ) {
-    let mut k = card::reset(settings, tables);
+    let mut k = card::reset(settings, tables, waves);
     let mut held: usize = 0;
     let mut failed: u32 = 0;
     let mut turns = u64::MAX;
@@ -53,7 +54,7 @@ fn serve(
         turns = turns - 1;
         let got = libc::read(STDIN_FILENO, chunk);
         if 0 <= got {
-            let t = take_turn(settings, tables, line, chunk, out, k, held, got);
+            let t = take_turn(settings, tables, waves, line, chunk, out, k, held, got);
             if !t.more {
                 return;
             }
@@ -73,6 +74,7 @@ fn serve(
 fn take_turn(
     settings: &mut [u16; 16960],
     tables: &mut [u16; 512],
+    waves: &mut [u16; 4096],
     line: &mut [u8],
     chunk: &[u8],
     out: &mut [u8],
@@ -84,10 +86,10 @@ fn take_turn(
 {
     if 0 < got {
         let n = io::count(got, chunk);
-        return serve_chunk(settings, tables, line, out, card, held, &chunk[..n]);
+        return serve_chunk(settings, tables, waves, line, out, card, held, &chunk[..n]);
     }
     if 0 < held {
-        let a = end_line(settings, tables, line, held, out, 0, card);
+        let a = end_line(settings, tables, waves, line, held, out, 0, card);
         write_answers(out, a.end);
     }
     Turn {
@@ -101,6 +103,7 @@ fn take_turn(
 fn serve_chunk(
     settings: &mut [u16; 16960],
     tables: &mut [u16; 512],
+    waves: &mut [u16; 4096],
     line: &mut [u8],
     out: &mut [u8],
     card: Card,
@@ -117,7 +120,7 @@ fn serve_chunk(
         let b = chunk[i];
         i = i + 1;
         if b == 10 {
-            let a = end_line(settings, tables, line, h, out, end, k);
+            let a = end_line(settings, tables, waves, line, h, out, end, k);
             k = a.card;
             h = 0;
             end = room_made(out, a.end);
@@ -160,6 +163,7 @@ fn room_made(out: &[u8], end: usize) -> usize
 fn end_line(
     settings: &mut [u16; 16960],
     tables: &mut [u16; 512],
+    waves: &mut [u16; 4096],
     line: &[u8],
     held: usize,
     out: &mut [u8],
@@ -170,7 +174,7 @@ fn end_line(
     ensures { λ r. ⌜ r .end ≤ at + 16394 ⌝ }
 {
     let n = word::least(held, line.len());
-    let a = answer(settings, tables, card, &line[..n], &mut out[at..]);
+    let a = answer(settings, tables, waves, card, &line[..n], &mut out[at..]);
     let end = at + a.end;
     digits::put(out, end, 10);
     let k = a.card;
@@ -213,6 +217,7 @@ fn complain(words: &[u8]) {
 fn answer(
     settings: &mut [u16; 16960],
     tables: &mut [u16; 512],
+    waves: &mut [u16; 4096],
     card: Card,
     line: &[u8],
     out: &mut [u8],
@@ -223,12 +228,13 @@ fn answer(
         return bad(card, out);
     }
     match digits::byte_at(line, 0) {
+        0x10 => hand_in(waves, card, line, out),
         0x11 => write_slice(settings, tables, card, line, out),
         0x12 => read_slice(settings, card, line, out),
-        0x18 => reset(settings, tables, card, line, out),
+        0x18 => reset(settings, tables, waves, card, line, out),
         0x1B => plot(settings, card, line, out),
         0x1C => show(card, line, out),
-        _ => line::answer_line(settings, tables, card, line, out),
+        _ => line::answer_line(settings, tables, waves, card, line, out),
     }
 }
 
@@ -238,6 +244,29 @@ fn bad(card: Card, out: &mut [u8]) -> Answered
 {
     digits::put2(out, 0, 0xFF);
     Answered { card: card, end: 2 }
+}
+
+// 10, channel, words: the wave table of a channel. A line of 16,394 digits has 4,097 words at most.
+fn hand_in(waves: &mut [u16; 4096], card: Card, line: &[u8], out: &mut [u8]) -> Answered
+    ensures { λ r. ⌜ r .end ≤ 16393 ⌝ }
+{
+    let n = line.len();
+    if n < 4 {
+        return bad(card, out);
+    }
+    let k = (n - 4) / 4;
+    if n != 4 + 4 * k {
+        return bad(card, out);
+    }
+    if 4097 < k {
+        return bad(card, out);
+    }
+    let mut words = [0u16; 4097];
+    digits::words(line, 4, k as u16, &mut words);
+    let reply = wavetable::hand_in(waves, card, digits::byte_at(line, 2), &words[..k]);
+    digits::put2(out, 0, 0x90);
+    digits::put2(out, 2, wavetable::number(reply) as usize);
+    Answered { card: card, end: 4 }
 }
 
 // 11, start, count, words: a write of `count` from a slice of these words.
@@ -339,6 +368,7 @@ fn put_answer(out: &mut [u8], name: usize, answer: Answer) {
 fn reset(
     settings: &mut [u16; 16960],
     tables: &mut [u16; 512],
+    waves: &mut [u16; 4096],
     card: Card,
     line: &[u8],
     out: &mut [u8],
@@ -350,7 +380,7 @@ fn reset(
     }
     digits::put2(out, 0, 0x98);
     Answered {
-        card: card::reset(settings, tables),
+        card: card::reset(settings, tables, waves),
         end: 2,
     }
 }

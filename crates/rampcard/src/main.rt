@@ -39,16 +39,17 @@ fn main() {
 fn serve(
     settings: &mut [u16; 16960],
     tables: &mut [u16; 512],
+    waves: &mut [u16; 4096],
     line: &mut [u8; 263],
     chunk: &mut [u8; 65536],
     out: &mut [u8; 65536],
 ) {
-    let mut k = line::start(settings, tables);
+    let mut k = line::start(settings, tables, waves);
     let mut held: usize = 0;
     let mut turns = u64::MAX;
     while 0 < turns {
         turns = turns - 1;
-        let t = take_turn(settings, tables, line, chunk, out, k, held);
+        let t = take_turn(settings, tables, waves, line, chunk, out, k, held);
         if !t.more {
             return;
         }
@@ -61,6 +62,7 @@ fn serve(
 fn take_turn(
     settings: &mut [u16; 16960],
     tables: &mut [u16; 512],
+    waves: &[u16; 4096],
     line: &mut [u8; 263],
     chunk: &mut [u8],
     out: &mut [u8],
@@ -72,10 +74,10 @@ fn take_turn(
     let got = read_some(chunk);
     if 0 < got {
         let n = io::count(got, chunk);
-        return serve_chunk(settings, tables, line, out, card, held, &chunk[..n]);
+        return serve_chunk(settings, tables, waves, line, out, card, held, &chunk[..n]);
     }
     if got == 0 {
-        end_input(settings, tables, line, out, card, held);
+        end_input(settings, tables, waves, line, out, card, held);
     } else {
         complain(b"rampcard: standard input cannot be read\n");
     }
@@ -91,12 +93,13 @@ fn take_turn(
 fn end_input(
     settings: &mut [u16; 16960],
     tables: &mut [u16; 512],
+    waves: &[u16; 4096],
     line: &[u8; 263],
     out: &mut [u8],
     card: Card,
     held: usize,
 ) {
-    let s = line::finish(settings, tables, line, out, card, held);
+    let s = line::finish(settings, tables, waves, line, out, card, held);
     write_answers(out, s.end);
 }
 
@@ -104,6 +107,7 @@ fn end_input(
 fn serve_chunk(
     settings: &mut [u16; 16960],
     tables: &mut [u16; 512],
+    waves: &[u16; 4096],
     line: &mut [u8; 263],
     out: &mut [u8],
     card: Card,
@@ -111,13 +115,13 @@ fn serve_chunk(
     chunk: &[u8],
 ) -> Turn
     requires { ⌜ 265 ≤ length (now out) ⌝ }
-    ensures { λ r. ⌜ Served (found card settings tables line held) (lent chunk) (left settings) (left tables) (left line) r ⌝ }
+    ensures { λ r. ⌜ Served (lent waves) (found card settings tables line held) (lent chunk) (left settings) (left tables) (left line) r ⌝ }
 {
     let mut k = card;
     let mut h = held;
     let mut i: usize = 0;
     while i < chunk.len() {
-        let s = line::feed(settings, tables, line, out, k, h, &chunk[i..]);
+        let s = line::feed(settings, tables, waves, line, out, k, h, &chunk[i..]);
         i = i + s.taken;
         k = s.card;
         h = s.held;

@@ -7,7 +7,7 @@ use Rattle.sum.specs.Starred as samples
 use Rattle.slots.specs.Slots.{slotOf}
 use Rattle.map.specs.Addresses.{delayAt}
 use Rattle.channel.specs.declared.Channel.{Channel}
-use Rattle.channel.specs.Channel.{Side, side, word, load, start, tickOf, triggered}
+use Rattle.channel.specs.Channel.{Side, word, load, start, soundedSide, tickOf, triggered}
 use Rattle.card.specs.Card.{State}
 use Rattle.transfer.specs.Transfer.{numberOf, processedOf, writeOf}
 
@@ -18,17 +18,17 @@ pub record Delay : Type 0 where
   pub loads : ℕ
   pub starts : ℕ
 
--- n ticks of one channel under settings that stay
-unfoldable pub ticked : ℕ → List ℕ → ℕ → Side → Side
-ticked zero s c x = x
-ticked (suc n) s c x = ticked n s c (tickOf s (x .tables) c (x .channel))
+-- n ticks of one channel under settings s and wave tables w that stay
+unfoldable pub ticked : ℕ → List ℕ → List ℕ → ℕ → Side → Side
+ticked zero s w c x = x
+ticked (suc n) s w c x = ticked n s w c (tickOf s w (x .tables) c (x .channel))
 
 -- whatever the channel does, a trigger of a level with this delay leads to a load on its tick and to a start on its tick
 pub record Comes (d : Delay) : Type 0 where
-  pub load-on : (s l : List ℕ) (c : ℕ) (ch : Channel) (level : ℕ) → word s (delayAt c level) ≡ d .delay
-      → ticked (d .loads) s c (triggered s l c ch level) ≡ load s l c ch level
-  pub start-on : (s l : List ℕ) (c : ℕ) (ch : Channel) (level : ℕ) → word s (delayAt c level) ≡ d .delay
-      → ticked (d .starts) s c (triggered s l c ch level) ≡ side (start s (load s l c ch level .tables) c (ticked (d .starts - 1) s c (triggered s l c ch level) .channel)) (load s l c ch level .tables)
+  pub load-on : (s w l : List ℕ) (c : ℕ) (ch : Channel) (level : ℕ) → word s (delayAt c level) ≡ d .delay
+      → ticked (d .loads) s w c (triggered s l c ch level) ≡ load s l c ch level
+  pub start-on : (s w l : List ℕ) (c : ℕ) (ch : Channel) (level : ℕ) → word s (delayAt c level) ≡ d .delay
+      → ticked (d .starts) s w c (triggered s l c ch level) ≡ soundedSide w c (start s (load s l c ch level .tables) c (ticked (d .starts - 1) s w c (triggered s l c ch level) .channel))
 
 -- ---- a transfer: words written from a start on, to a state of which something is given
 

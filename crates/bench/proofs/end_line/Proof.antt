@@ -9,7 +9,7 @@ least-requires : tie.Need-least-requires
 least-requires c κs = search needs
 
 slice-aggregate-answer : tie.Need-slice-aggregate-answer
-slice-aggregate-answer c = sym (length-take-le _ (c .before .before .before .before .before .before .args .line .now) (c .before .before .before .least .ensures .2))
+slice-aggregate-answer c = sym (length-take-le _ (c .before .before .before .before .before .before .before .args .line .now) (c .before .before .before .before .least .ensures .2))
 
 sub-answer : tie.Need-sub-answer
 sub-answer c = search needs
@@ -29,8 +29,8 @@ add-end c = search needs
 put-requires : tie.Need-put-requires
 put-requires c κs = search needs
 
-add-t12 : tie.Need-add-t12
-add-t12 c = search needs
+add-t13 : tie.Need-add-t13
+add-t13 c = search needs
 
 same-length : tie.Need-same-length
 same-length c = search needs
@@ -50,6 +50,6 @@ end-line-spec =
     answer-requires
     add-end
     put-requires
-    add-t12
+    add-t13
     same-length
     returns)

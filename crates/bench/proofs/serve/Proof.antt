@@ -6,10 +6,10 @@ use Rattle.bench.proofs.serve.Statement.{statement}
 use Rattle.bench.proofs.serve.Tie as tie
 
 abbrev Inv-loop : tie.InvT-loop
-Inv-loop settings₀ tables₀ line₀ chunk₀ out₀ k₀ held₀ failed₀ turns₀ t12 settings tables line chunk out k held failed turns = failed < 100
+Inv-loop settings₀ tables₀ waves₀ line₀ chunk₀ out₀ k₀ held₀ failed₀ turns₀ t12 settings tables waves line chunk out k held failed turns = failed < 100
 
 abbrev μ-loop : tie.MeasureT-loop
-μ-loop settings₀ tables₀ line₀ chunk₀ out₀ k₀ held₀ failed₀ turns₀ t12 settings tables line chunk out k held failed turns = turns
+μ-loop settings₀ tables₀ waves₀ line₀ chunk₀ out₀ k₀ held₀ failed₀ turns₀ t12 settings tables waves line chunk out k held failed turns = turns
 
 reset-requires : tie.Need-reset-requires Inv-loop μ-loop
 reset-requires c κs = search needs

@@ -8,11 +8,11 @@ use Rattle.bench.proofs.serve_chunk.Statement.{statement}
 use Rattle.bench.proofs.serve_chunk.Tie as tie
 
 abbrev Inv-loop : tie.InvT-loop
-Inv-loop settings₀ tables₀ line₀ out₀ held chunk k₀ h₀ end₀ i₀ settings tables line out k h end i =
+Inv-loop settings₀ tables₀ waves₀ line₀ out₀ held chunk k₀ h₀ end₀ i₀ settings tables waves line out k h end i =
     (i ≤ length chunk) × (end ≤ 49142) × (length line ≡ length line₀) × (length out ≡ length out₀)
 
 abbrev μ-loop : tie.MeasureT-loop
-μ-loop settings₀ tables₀ line₀ out₀ held chunk k₀ h₀ end₀ i₀ settings tables line out k h end i = length chunk - i
+μ-loop settings₀ tables₀ waves₀ line₀ out₀ held chunk k₀ h₀ end₀ i₀ settings tables waves line out k h end i = length chunk - i
 
 loop-holds : tie.Need-loop-holds Inv-loop μ-loop
 loop-holds c = search needs
@@ -33,10 +33,10 @@ stopped-requires : tie.Need-stopped-requires Inv-loop μ-loop
 stopped-requires c κs = search needs
 
 same-length : tie.Need-same-length Inv-loop μ-loop
-same-length c = let v = c .before .before .before .before .before .before .before .before .before .before .before .before .before .before .before .loop .inv in search (needs, v)
+same-length c = let v = c .before .before .before .before .before .before .before .before .before .before .before .before .before .before .before .before .loop .inv in search (needs, v)
 
 same-length-2 : tie.Need-same-length-2 Inv-loop μ-loop
-same-length-2 c = let v = c .before .before .before .before .before .before .before .before .before .before .before .before .before .before .before .loop .inv in search (needs, v)
+same-length-2 c = let v = c .before .before .before .before .before .before .before .before .before .before .before .before .before .before .before .before .loop .inv in search (needs, v)
 
 returns : tie.Need-returns Inv-loop μ-loop
 returns c = search needs

@@ -4,10 +4,10 @@ use Rattle.rampcard.proofs.serve.Statement.{statement}
 use Rattle.rampcard.proofs.serve.Tie as tie
 
 abbrev Inv-loop : tie.InvT-loop
-Inv-loop settings₀ tables₀ line₀ chunk₀ out₀ k₀ held₀ turns₀ settings tables line chunk out k held turns = Unit {0}
+Inv-loop settings₀ tables₀ waves line₀ chunk₀ out₀ k₀ held₀ turns₀ settings tables line chunk out k held turns = Unit {0}
 
 abbrev μ-loop : tie.MeasureT-loop
-μ-loop settings₀ tables₀ line₀ chunk₀ out₀ k₀ held₀ turns₀ settings tables line chunk out k held turns = turns
+μ-loop settings₀ tables₀ waves line₀ chunk₀ out₀ k₀ held₀ turns₀ settings tables line chunk out k held turns = turns
 
 start-requires : tie.Need-start-requires Inv-loop μ-loop
 start-requires c κs = search needs
