@@ -9,7 +9,7 @@ use Rattle.channel.specs.Channel.{Side, Move, ticked, moveOf, tickOf}
 use Rattle.card.specs.declared.Card.{Card}
 use Rattle.card.specs.declared.Pass.{Pass}
 use Rattle.card.specs.Card.{State, channelOf, onAll}
-use Rattle.card.specs.Tick.{moving, making, moved}
+use Rattle.card.specs.Tick.{firstPass, secondPass, bothPasses}
 
 -- a channel and its tables are those of a side
 pub record Made (ch : Channel) (l : List ℕ) (s : Side) : Type 0 where
@@ -60,8 +60,8 @@ module _ (st : State) where
   move-on i e s = record { handed = s .handed ∙ ap (λ (x : List ℕ). ticked (go i x)) e; tables = s .tables ∙ ap (λ (x : List ℕ). go i x .tables) e }
 
   pub all-moved : {la lb lc ld : List ℕ} {a b c d : Ticked} → Moves a la (go 0 (st .tables)) → Moves b lb (go 1 la) → Moves c lc (go 2 lb) → Moves d ld (go 3 lc)
-      → (_≡_ {A = Pass} (record { zero = a; one = b; two = c; three = d }) (moving st .pass)) × (ld ≡ moving st .tables)
-  unfolding moving
+      → (_≡_ {A = Pass} (record { zero = a; one = b; two = c; three = d }) (firstPass st .pass)) × (ld ≡ firstPass st .tables)
+  unfolding firstPass
   all-moved p q r s =
       let q′ = move-on 1 (p .tables) q in
       let r′ = move-on 2 (q′ .tables) r in
@@ -71,6 +71,6 @@ module _ (st : State) where
 -- ---- both passes
 
 -- a channel's output is made of its own sample, so it does not matter that the other ramps move in between
-pub two-passes : (w : List ℕ) (st : State) → moved w st ≡ onAll (λ c l ch. tickOf (st .settings) w l c ch) (st .card) (st .tables)
-unfolding moving making onAll tickOf
+pub two-passes : (w : List ℕ) (st : State) → bothPasses w st ≡ onAll (λ c l ch. tickOf (st .settings) w l c ch) (st .card) (st .tables)
+unfolding firstPass secondPass onAll tickOf
 two-passes w st = refl

@@ -10,12 +10,12 @@ use Rattle.card.specs.Active.{showing}
 use Rattle.card.specs.Trigger.{eventOf}
 
 -- the four channels after the first pass, one after the other over the loaded tables
-pub record Moving : Type 0 where
+pub record Passed : Type 0 where
   pub pass : Pass
   pub tables : List ℕ
 
-unfoldable pub moving : State → Moving
-moving st =
+unfoldable pub firstPass : State → Passed
+firstPass st =
     let a : Move = moveOf (st .settings) (st .tables) 0 (channelOf (st .card) 0) in
     let b : Move = moveOf (st .settings) (a .tables) 1 (channelOf (st .card) 1) in
     let c : Move = moveOf (st .settings) (b .tables) 2 (channelOf (st .card) 2) in
@@ -23,20 +23,20 @@ moving st =
     record { pass = record { zero = ticked a; one = ticked b; two = ticked c; three = ticked d }; tables = d .tables }
 
 -- the second pass
-unfoldable pub making : List ℕ → Pass → List Channel
-making w p =
+unfoldable pub secondPass : List ℕ → Pass → List Channel
+secondPass w p =
     sounded w 0 (p .zero .channel) (p .zero .gave)
     ∷ sounded w 1 (p .one .channel) (p .one .gave)
     ∷ sounded w 2 (p .two .channel) (p .two .gave)
     ∷ sounded w 3 (p .three .channel) (p .three .gave)
     ∷ []
 
-abbrev pub moved : List ℕ → State → All
-moved w st = record { channels = making w (moving st .pass); tables = moving st .tables }
+abbrev pub bothPasses : List ℕ → State → All
+bothPasses w st = record { channels = secondPass w (firstPass st .pass); tables = firstPass st .tables }
 
 -- every channel one microsecond on; a load by counting shows the pending trigger, and only then the event is taken
 unfoldable pub advanced : List ℕ → State → State
-advanced w st = state (showing (withChannels (st .card) (moved w st .channels))) (st .settings) (moved w st .tables)
+advanced w st = state (showing (withChannels (st .card) (bothPasses w st .channels))) (st .settings) (bothPasses w st .tables)
 
 -- a tick with its event, 0xFE if there is none
 abbrev pub tickWith : List ℕ → State → ℕ → State

@@ -11,7 +11,7 @@ ghost use Rattle.word.specs.Lent.{lent, left};
 ghost use Rattle.card.specs.Card.{before, Leaves, LeavesWhole, LeavesAll, noChannel, channelOf, withChannel, withChannels, countOf, withCount};
 ghost use Rattle.card.specs.Active.{cause, someLoaded, showing};
 ghost use Rattle.card.specs.Trigger.{counted, keeping, struck, triggerOf, acceptedOf, eventOf};
-ghost use Rattle.card.specs.Tick.{moving, making, advanced, tickWith, ticks};
+ghost use Rattle.card.specs.Tick.{firstPass, secondPass, advanced, tickWith, ticks};
 ghost use Rattle.card.specs.Reset.{settingsReset, wavesReset, cardReset, resetOf};
 
 // What causes a ramp: an accepted trigger's level, and its event, 0xFE if manual.
@@ -148,7 +148,7 @@ fn advance(
 
 // First pass: every channel's ramp value moves.
 fn move_ramps(settings: &[u16; 16960], tables: &mut [u16; 512], card: Card) -> Pass
-    ensures { λ r. ⌜ (r ≡ moving (before card settings tables) .pass) × (left tables ≡ moving (before card settings tables) .tables) ⌝ }
+    ensures { λ r. ⌜ (r ≡ firstPass (before card settings tables) .pass) × (left tables ≡ firstPass (before card settings tables) .tables) ⌝ }
 {
     let a = channel::move_ramp(settings, tables, 0, card.channels[0]);
     let b = channel::move_ramp(settings, tables, 1, card.channels[1]);
@@ -164,7 +164,7 @@ fn move_ramps(settings: &[u16; 16960], tables: &mut [u16; 512], card: Card) -> P
 
 // Second pass: the outputs are made.
 fn make_outputs(waves: &[u16; 4096], card: Card, pass: Pass) -> Card
-    ensures { λ r. ⌜ r ≡ withChannels card (making (lent waves) pass) ⌝ }
+    ensures { λ r. ⌜ r ≡ withChannels card (secondPass (lent waves) pass) ⌝ }
 {
     let zero = pass.zero;
     let one = pass.one;

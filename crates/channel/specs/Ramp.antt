@@ -16,7 +16,6 @@ use Rattle.channel.specs.declared.Loaded.{Loaded}
 use Rattle.channel.specs.declared.Moved.{Moved}
 use Rattle.channel.specs.declared.Ramp.{Ramp}
 use Rattle.channel.specs.declared.Ramp.the-variants.{Still, Going, Free}
-use Rattle.channel.specs.declared.Gave.{Gave}
 use Rattle.channel.specs.declared.Gave.the-variants.{NoSample, OfRamp, OfFreeRun}
 
 -- a sample's place: segment n, m samples left

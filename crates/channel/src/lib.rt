@@ -1,5 +1,5 @@
-// One channel: its phase, its countdown, the load, the start and the samples of its ramp.
-// Settings are lent by address; the loaded tables are lent one after the other, 128 words a channel.
+// One channel: its phase, its countdown, the load, the start, the samples of its ramp and the output that is made of them.
+// Settings are lent by address; loaded tables and wave tables one after the other, 128 and 1,024 words a channel.
 use sum::Sum;
 use word::Micros;
 use word::Samples;

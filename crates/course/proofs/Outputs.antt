@@ -23,7 +23,7 @@ use Rattle.channel.specs.Ramp.{hold}
 use Rattle.channel.specs.Channel.{Side, word, rampOf, going, countdown, triggered}
 use Rattle.course.specs.Course.{Act, Tick, Elsewhere, Output, Clear, act, run, ticksIn, until, heldOn, wavesOn}
 use Rattle.course.specs.Follows.{totalFor, sumFor, freeFor, Plays}
-use Rattle.course.specs.Outputs.{latest, amplitudeFor, outputSum, GoesOn, Outputs, OutputsFollow}
+use Rattle.course.specs.Outputs.{latest, amplitudeFor, outputFor, MoreToCome, Outputs, OutputsFollow}
 use Rattle.course.proofs.Copies.{trigger-length}
 use Rattle.course.proofs.Acts.{act-length, before-all, waves-next, not-written}
 use Rattle.course.proofs.Points.{differ}
@@ -35,11 +35,11 @@ module _ (c v : ℕ) (w : List ℕ) (d : ℕ) where
   abbrev T : ℕ
   T = totalFor w c v
 
-  goes-plays : (k : ℕ) → GoesOn w c v k → Plays w c v k
+  goes-plays : (k : ℕ) → MoreToCome w c v k → Plays w c v k
   goes-plays k (inl h) = inl (omega arith)
   goes-plays k (inr e) = inr e
 
-  plays-goes : (k : ℕ) → Plays w c v (suc k) → GoesOn w c v k
+  plays-goes : (k : ℕ) → Plays w c v (suc k) → MoreToCome w c v k
   plays-goes k (inl h) = inl (omega arith)
   plays-goes k (inr e) = inr e
 
@@ -48,7 +48,7 @@ module _ (c v : ℕ) (w : List ℕ) (d : ℕ) where
   module _ (of : Channel → ℕ) (sums : ℕ → Sum) (o : ℕ) where
     -- the word t ticks after the trigger, while samples are to come
     Traced : ℕ → Side → Type 0
-    Traced t x = (k j : ℕ) → GoesOn w c v k → j < 10 → t ≡ d + 10 * k + j → of (x .channel) ≡ latest sums o k
+    Traced t x = (k j : ℕ) → MoreToCome w c v k → j < 10 → t ≡ d + 10 * k + j → of (x .channel) ≡ latest sums o k
 
     -- what the tick after t ticks makes of it
     record Reads (t : ℕ) (now later : Side) : Type 0 where
@@ -120,7 +120,7 @@ module _ (c v : ℕ) (w : List ℕ) (d : ℕ) where
     -- the two, t ticks after the trigger
     record Both (t : ℕ) (x : Side) : Type 0 where
       pub moved : Traced amplitude moves a t x
-      pub made : Traced output (outputSum u w c v a) o t x
+      pub made : Traced output (outputFor u w c v a) o t x
 
     -- a tick under the settings z, with the wave tables q
     module _ (t : ℕ) (z q : List ℕ) (x : Side) (y : Ticked c v w 1 d t z q x) (r : Both t x) (b : t + 1 ≡ d → Before (x .channel))
@@ -143,7 +143,7 @@ module _ (c v : ℕ) (w : List ℕ) (d : ℕ) where
       just-amplitude : (k : ℕ) → Plays w c v k → t + 1 ≡ d + 10 * k → later .channel .shown .amplitude ≡ amplitudeFor w c v a k
       just-amplitude k h e = sample-out amplitude moves a t x later amplitude-reads (r .moved) (λ i. b i .0) k h e ∙ moves-latest a k
 
-      output-reads : Reads output (outputSum u w c v a) o t x later
+      output-reads : Reads output (outputFor u w c v a) o t x later
       output-reads =
           record {
             made = λ k h e.
@@ -152,19 +152,19 @@ module _ (c v : ℕ) (w : List ℕ) (d : ℕ) where
             still = λ h n. ap (λ (g : Signal). g .output) (y .still h (λ i k j e. n k j e));
           }
 
-      just-output : (k : ℕ) → Plays w c v k → t + 1 ≡ d + 10 * k → later .channel .signal .output ≡ latest (outputSum u w c v a) o k
-      just-output k h e = sample-out output (outputSum u w c v a) o t x later output-reads (r .made) (λ i. b i .1) k h e
+      just-output : (k : ℕ) → Plays w c v k → t + 1 ≡ d + 10 * k → later .channel .signal .output ≡ latest (outputFor u w c v a) o k
+      just-output k h e = sample-out output (outputFor u w c v a) o t x later output-reads (r .made) (λ i. b i .1) k h e
 
       tick-both : Both (t + 1) later
       tick-both =
           record {
             moved = tick-out amplitude moves a t x later amplitude-reads (r .moved) (λ i. b i .0);
-            made = tick-out output (outputSum u w c v a) o t x later output-reads (r .made) (λ i. b i .1);
+            made = tick-out output (outputFor u w c v a) o t x later output-reads (r .made) (λ i. b i .1);
           }
 
     same-both : (t : ℕ) (x x′ : Side) → amplitude (x′ .channel) ≡ amplitude (x .channel) → output (x′ .channel) ≡ output (x .channel) → Both t x → Both t x′
     same-both t x x′ e f y =
-        record { moved = same-out amplitude moves a t x x′ e (y .moved); made = same-out output (outputSum u w c v a) o t x x′ f (y .made) }
+        record { moved = same-out amplitude moves a t x x′ e (y .moved); made = same-out output (outputFor u w c v a) o t x x′ f (y .made) }
 
     -- any acts
     traced-run : (t : ℕ) (s z q : List ℕ) (x : Side) (xs : List Act) → 128 * c + 128 ≤ length (x .tables) → Ahead c v w 1 d t s z xs
@@ -187,7 +187,7 @@ module _ (c v : ℕ) (w : List ℕ) (d : ℕ) where
     traced-run t s z q x (Output i ∷ xs) m h b f e y =
         traced-run t s z q (act c x (Output i)) xs m (record { loads = h .loads; enabled = h .enabled }) b f
         (beside-output c v w 1 d t x i e)
-        (record { moved = output-out amplitude moves a t x i e (y .moved); made = output-out output (outputSum u w c v a) o t x i e (y .made) })
+        (record { moved = output-out amplitude moves a t x i e (y .moved); made = output-out output (outputFor u w c v a) o t x i e (y .made) })
     traced-run t s z q x (Clear ∷ xs) m h b f e y =
         traced-run t s z q (act c x Clear) xs m (record { loads = h .loads; enabled = h .enabled }) b f
         (beside-clear c v w 1 d t x e) (same-both t x (act c x Clear) refl refl y)

@@ -24,22 +24,22 @@ abbrev pub amplitudeFor : List ℕ → ℕ → ℕ → ℕ → ℕ → ℕ
 amplitudeFor s c level a k = latest (sumFor s c level) a (min k (totalFor s c level))
 
 -- the sum that sample k gives the output, w being its wave tables: in sine mode the sine of the amplitude at its counter
-abbrev pub outputSum : (ℕ → List ℕ) → List ℕ → ℕ → ℕ → ℕ → ℕ → Sum
-outputSum w s c level a k = cond (sineFor s c level) (sineOf (w k) c (counterFor s c level k) (amplitudeFor s c level a k)) (sumFor s c level k)
+abbrev pub outputFor : (ℕ → List ℕ) → List ℕ → ℕ → ℕ → ℕ → ℕ → Sum
+outputFor w s c level a k = cond (sineFor s c level) (sineOf (w k) c (counterFor s c level k) (amplitudeFor s c level a k)) (sumFor s c level k)
 
 -- after sample k another is to come
-abbrev pub GoesOn : List ℕ → ℕ → ℕ → ℕ → Type 0
-GoesOn s c level k = (k < totalFor s c level) ⊎ (freeFor s c level ≡ true)
+abbrev pub MoreToCome : List ℕ → ℕ → ℕ → ℕ → Type 0
+MoreToCome s c level k = (k < totalFor s c level) ⊎ (freeFor s c level ≡ true)
 
 -- A trigger of a level sets the countdown d, the settings s are held on tick d − 10, w k are the wave tables of sample k, and a and o are
 -- amplitude and output just before tick d. Channel c is `now` after t ticks, and `later` just after the next.
 pub record Outputs (c level d : ℕ) (s : List ℕ) (w : ℕ → List ℕ) (a o t : ℕ) (now later : Side) : Type 0 where
   -- from sample k until the next
-  pub amplitude : (k j : ℕ) → GoesOn s c level k → j < 10 → t ≡ d + 10 * k + j → now .channel .shown .amplitude ≡ amplitudeFor s c level a k
-  pub output : (k j : ℕ) → GoesOn s c level k → j < 10 → t ≡ d + 10 * k + j → now .channel .signal .output ≡ latest (outputSum w s c level a) o k
+  pub amplitude : (k j : ℕ) → MoreToCome s c level k → j < 10 → t ≡ d + 10 * k + j → now .channel .shown .amplitude ≡ amplitudeFor s c level a k
+  pub output : (k j : ℕ) → MoreToCome s c level k → j < 10 → t ≡ d + 10 * k + j → now .channel .signal .output ≡ latest (outputFor w s c level a) o k
   -- just after each sample, the last one too
   pub justAmplitude : (k : ℕ) → Plays s c level k → t + 1 ≡ d + 10 * k → later .channel .shown .amplitude ≡ amplitudeFor s c level a k
-  pub justOutput : (k : ℕ) → Plays s c level k → t + 1 ≡ d + 10 * k → later .channel .signal .output ≡ latest (outputSum w s c level a) o k
+  pub justOutput : (k : ℕ) → Plays s c level k → t + 1 ≡ d + 10 * k → later .channel .signal .output ≡ latest (outputFor w s c level a) o k
 
 -- the trigger and the acts are those of demand 3, and the waveform is enabled on tick d
 unfoldable pub OutputsFollow : Type 0

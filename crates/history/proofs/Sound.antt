@@ -25,7 +25,7 @@ use Rattle.card.specs.declared.Card.{Card}
 use Rattle.card.specs.Card.{State, state, All, noChannel, channelOf, withChannel, countOf, withCount, withChannels, onAll}
 use Rattle.card.specs.Active.{cause, someLoaded}
 use Rattle.card.specs.Trigger.{counted, keeping, struck, triggerOf, acceptedOf, onEvent, eventOf}
-use Rattle.card.specs.Tick.{moved, advanced, tickWith, ticks}
+use Rattle.card.specs.Tick.{bothPasses, advanced, tickWith, ticks}
 use Rattle.card.proofs.All.{two-passes}
 use Rattle.card.specs.Reset.{tablesReset, cardReset, resetOf}
 use Rattle.transfer.specs.declared.Effect.the-variants.{Keep, Output, Erase, Nothing}
@@ -105,7 +105,7 @@ module _ (st : State) (h : Sound st) where
   advanced-sound : (waves : List ℕ) → Sound (advanced waves st)
   unfolding advanced
   advanced-sound waves =
-      let a : AllSound (st .card) (moved waves st) =
+      let a : AllSound (st .card) (bothPasses waves st) =
       subst (AllSound (st .card)) (sym (two-passes waves st))
       (all-sound (λ c l ch. tickOf (st .settings) waves l c ch) (λ c i l ch g t. tick-sound (st .settings) (h .settings) l c i ch g t waves) (st .card) (st .tables) (h .card .channels) (h .tables)) in
       record {
@@ -117,7 +117,7 @@ module _ (st : State) (h : Sound st) where
               channels = a .channels;
               many = h .card .many;
               counts = h .card .counts;
-              active = choose CauseSound (someLoaded (withChannels (st .card) (moved waves st .channels))) _ _ (h .card .pending) (h .card .active);
+              active = choose CauseSound (someLoaded (withChannels (st .card) (bothPasses waves st .channels))) _ _ (h .card .pending) (h .card .active);
               pending = h .card .pending;
             };
       }

@@ -13,7 +13,7 @@ use Rattle.channel.specs.Channel.{Side, side, tickOf, triggered}
 use Rattle.card.specs.declared.Card.{Card}
 use Rattle.card.specs.Card.{State, All, channelOf, withChannels, countOf, onAll}
 use Rattle.card.specs.Trigger.{struck, triggerOf}
-use Rattle.card.specs.Tick.{making, advanced}
+use Rattle.card.specs.Tick.{secondPass, advanced}
 use Rattle.word.specs.Word.{grown}
 use Rattle.card.proofs.All.{two-passes}
 use Rattle.card.proofs.Ticks.{advanced-settings, trigger-settings}
@@ -78,7 +78,7 @@ unfolding advanced
 quiet-tick waves st event e = rw e
 
 pub advanced-four : (waves : List ℕ) (st : State) → length (advanced waves st .card .channels) ≡ 4
-unfolding advanced making
+unfolding advanced secondPass
 advanced-four waves st = refl
 
 -- what the turn leaves is the card's channel after the tick

@@ -7,7 +7,6 @@ use Prim.Native.Nat.{ℕ, _+_, _-_, _%_, _<_}
 use lib.Dec.{ltb, eqb}
 use lib.ListN.{length}
 use Rattle.sum.specs.declared.Sum.{Sum}
-use Rattle.sum.specs.declared.Sum.the-variants.{Word, Overflow}
 use Rattle.wave.specs.Sine.{sineOf}
 use Rattle.map.specs.Map.{base}
 use Rattle.map.specs.Addresses.{enableAt}

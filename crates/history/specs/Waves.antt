@@ -76,7 +76,7 @@ tableBy c st w (Tick waves event) t = t
 tableBy c st w (Write start count ws) t = t
 tableBy c st w (Read start count ws) t = t
 tableBy c st w (HandIn to ws) t = takenFor c to ws (handOf (st .card) w to ws .reply) t
-tableBy c st w Reset t = replicate 1024 0
+tableBy c st w Reset t = replicate entries 0
 
 abbrev pub lastTable : ℕ → State → List ℕ → List Act → List ℕ → List ℕ
 lastTable c st w [] t = t
@@ -86,7 +86,7 @@ lastTable c st w (x ∷ xs) t = lastTable c (act st x) (wavesAfter st w x) xs (t
 pub record WavesRight : Type 0 where
   -- after any history of a card that was reset a channel's wave table is the last one taken, zeros where there is none
   pub last : (s l w : List ℕ) → length w ≡ 4096 → (xs : List Act) (c : ℕ) → c < 4 → (i : ℕ) → i < entries
-      → getD (wavesIn (resetOf s l) (wavesReset w) xs) (waveOf c + i) 0 ≡ getD (lastTable c (resetOf s l) (wavesReset w) xs (replicate 1024 0)) i 0
+      → getD (wavesIn (resetOf s l) (wavesReset w) xs) (waveOf c + i) 0 ≡ getD (lastTable c (resetOf s l) (wavesReset w) xs (replicate entries 0)) i 0
   -- and all its words are in range
   pub inside : (s l w : List ℕ) → length w ≡ 4096 → (xs : List Act) (c : ℕ) → c < 4 → (i : ℕ) → i < entries
       → InWave (waveAt (wavesIn (resetOf s l) (wavesReset w) xs) c i)

@@ -1,4 +1,4 @@
-// One sample of a ramp: floor(S·f/256) + offset, with f an exact fraction.
+// One sample of a ramp: floor(S·f/256) + offset, with f an exact fraction; and the product of a sine.
 use word::Samples;
 ghost use mathlib.Core.Path.{_≡_};
 ghost use Prim.Native.Nat.{_*_, _<_, _≤_, _^_};

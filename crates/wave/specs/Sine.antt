@@ -22,7 +22,7 @@ abbrev pub backwards : ℕ → Bool
 backwards counter = eqb (counter / 0x4000 % 2) 1
 
 abbrev pub entry : ℕ → ℕ
-entry counter = cond (backwards counter) (1023 - index counter) (index counter)
+entry counter = cond (backwards counter) (entries - 1 - index counter) (index counter)
 
 -- where channel c's wave table begins among the four
 abbrev pub waveOf : ℕ → ℕ

@@ -16,13 +16,13 @@ pub fn sine(waves: &[u16; 4096], c: u16, counter: u16, amplitude: u16) -> Sum
 fn wave_word(waves: &[u16], c: u16, counter: u16) -> i32
     ensures { λ r. ⌜ r ≡ waveWord (lent waves) c counter ⌝ }
 {
-    let at = 1024 * (c as usize) + place(counter) as usize;
+    let at = 1024 * (c as usize) + entry_of(counter) as usize;
     let v = word::signed(word::get(waves, at));
     if counter / 0x8000 % 2 == 1 { -v } else { v }
 }
 
 // Its place in the channel's table: bits 13 to 4, backwards where bit 14 is set.
-fn place(counter: u16) -> u16
+fn entry_of(counter: u16) -> u16
     ensures { λ r. ⌜ r ≡ entry counter ⌝ }
 {
     let i = counter / 16 % 1024;

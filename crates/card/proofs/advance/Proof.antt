@@ -4,7 +4,7 @@ use mathlib.Core.Path.{ap, _∙_}
 use Rattle.card.specs.declared.Pass.{Pass}
 use Rattle.card.specs.Card.{withChannels}
 use Rattle.card.specs.Active.{showing}
-use Rattle.card.specs.Tick.{making, advanced}
+use Rattle.card.specs.Tick.{secondPass, advanced}
 use Rattle.card.proofs.advance.Statement.{statement}
 use Rattle.card.proofs.advance.Tie as tie
 
@@ -22,7 +22,7 @@ unfolding advanced
 returns c =
     let a = c .before .before .before .before .args in
     let m = c .before .before .move-ramps .ensures in
-    (c .show .ensures ∙ ap showing (c .before .make-outputs .ensures ∙ ap (λ (p : Pass). withChannels (a .card) (making (a .waves .now) p)) (m .0)), m .1)
+    (c .show .ensures ∙ ap showing (c .before .make-outputs .ensures ∙ ap (λ (p : Pass). withChannels (a .card) (secondPass (a .waves .now) p)) (m .0)), m .1)
 
 pub advance-spec : {M : Type 1} → statement M
 advance-spec = tie.close (tie.spec move-ramps-requires make-outputs-requires show-requires returns)

@@ -1,7 +1,7 @@
 -- `card::make_outputs` meets its contract. Assumes nothing.
 use borrow.Author.Needs.{needs}
 use mathlib.Core.Path.{_∙_}
-use Rattle.card.specs.Tick.{making}
+use Rattle.card.specs.Tick.{secondPass}
 use Rattle.card.proofs.make_outputs.Statement.{statement}
 use Rattle.card.proofs.make_outputs.Tie as tie
 
@@ -21,7 +21,7 @@ with-channels-requires : tie.Need-with-channels-requires
 with-channels-requires c κs = search needs
 
 returns : tie.Need-returns
-unfolding making
+unfolding secondPass
 returns c =
     c .with-channels .ensures
     ∙ rw (c .before .make-output4 .ensures, c .before .before .make-output3 .ensures, c .before .before .before .make-output2 .ensures, c .before .before .before .before .make-output .ensures)

@@ -4,7 +4,6 @@ use mathlib.Core.Path.{_≡_, sym, ap, _∙_}
 use mathlib.Core.List.{List}
 use Prim.Native.Nat.{ℕ}
 use Rattle.channel.specs.declared.Gave.{Gave}
-use Rattle.channel.specs.declared.Signal.{Signal}
 use Rattle.channel.specs.declared.Channel.{Channel}
 use Rattle.channel.specs.Signal.{makeOf}
 use Rattle.channel.specs.Channel.{withSignal, sounded}

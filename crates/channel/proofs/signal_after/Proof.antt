@@ -1,6 +1,6 @@
 -- `channel::signal_after` meets its contract, by the sum. Assumes nothing.
 use borrow.Author.Needs.{needs}
-use mathlib.Core.Path.{_≡_, sym, ap, _∙_}
+use mathlib.Core.Path.{_≡_, sym, ap}
 use mathlib.Core.Bool.{Bool}
 use Prim.Native.Nat.{ℕ}
 use Rattle.sum.specs.declared.Sum.{Sum}

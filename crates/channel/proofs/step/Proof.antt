@@ -9,7 +9,6 @@ use Rattle.channel.specs.declared.Place.{Place}
 use Rattle.channel.specs.declared.Way.{Way}
 use Rattle.channel.specs.declared.Loaded.{Loaded}
 use Rattle.channel.specs.declared.Shown.{Shown}
-use Rattle.channel.specs.declared.Moved.{Moved}
 use Rattle.channel.specs.declared.Gave.the-variants.{OfFreeRun}
 use Rattle.channel.specs.declared.Ramp.{Ramp}
 use Rattle.channel.specs.declared.Ramp.the-variants.{Going, Free}

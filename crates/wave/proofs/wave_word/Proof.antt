@@ -21,7 +21,7 @@ module _ (c : tie.After-signed) where
   reads : signedOf (c .before .get .result) ≡ at
   reads =
       let a = c .before .before .before .before .args in
-      ap signedOf (c .before .get .ensures) ∙ ap (λ (n : ℕ). signedOf (getD (a .waves .now) (waveOf (a .c) + n) 0)) (c .before .before .place .ensures)
+      ap signedOf (c .before .get .ensures) ∙ ap (λ (n : ℕ). signedOf (getD (a .waves .now) (waveOf (a .c) + n) 0)) (c .before .before .entry-of .ensures)
 
   at-size : natAbs at ≤ 0x8000
   at-size = rw (← reads) (size _ (c .before .get .ok))
@@ -38,8 +38,8 @@ module _ (c : tie.After-signed) where
 mul-at : tie.Need-mul-at
 mul-at c = search needs
 
-place-requires : tie.Need-place-requires
-place-requires c κs = search needs
+entry-of-requires : tie.Need-entry-of-requires
+entry-of-requires c κs = search needs
 
 cast-at : tie.Need-cast-at
 cast-at c = search needs
@@ -66,4 +66,4 @@ returns-2 c = rw (ne-eqb _ _ (c .if1 .left)) (at-is (c .before))
 
 pub wave-word-spec : {M : Type 1} → statement M
 wave-word-spec =
-    tie.close (tie.spec mul-at place-requires cast-at add-at get-requires signed-requires sub-result returns returns-2)
+    tie.close (tie.spec mul-at entry-of-requires cast-at add-at get-requires signed-requires sub-result returns returns-2)
