@@ -37,7 +37,7 @@ use Rattle.channel.specs.declared.Gave.the-variants.{NoSample, OfRamp, OfFreeRu
 use Rattle.channel.specs.declared.Channel.{Channel}
 use Rattle.channel.specs.Ramp.{place, enter, next, sampleAt, hold, way, isSine, freeRuns, ended, given, sooner, unsampled, advance}
 use Rattle.channel.specs.Signal.{signalAfter, counterAt, sineAfter, overflows, makeOf}
-use Rattle.channel.specs.Channel.{Side, Move, side, move, quiet, movedOn, with, word, firstOf, lead, loadsAt, rampOf, phaseOf, load, toneFor, start, countTo, moveAt, moveOf, tickOf, countdown, triggered}
+use Rattle.channel.specs.Channel.{Side, Move, side, move, quiet, movedOn, with, withSignal, word, firstOf, lead, loadsAt, rampOf, phaseOf, load, toneFor, start, countTo, moveAt, moveOf, tickOf, countdown, triggered}
 use Rattle.course.specs.Plain.{isFree}
 use Rattle.course.proofs.Copies.{choose, copied-length}
 use Rattle.course.proofs.Tables.{Placed}
@@ -238,7 +238,7 @@ ramp-phase Still = refl
 ramp-phase (Going r) = refl
 ramp-phase (Free r) = refl
 
-with-sound : (ch : Channel) (p : Phase) (s : Shown) → ChannelSound ch → PhaseSound p → (isFree (rampOf p) ≡ true → freeRuns (ch .loaded .tone .mode) ≡ true) → ShownSound s
+pub with-sound : (ch : Channel) (p : Phase) (s : Shown) → ChannelSound ch → PhaseSound p → (isFree (rampOf p) ≡ true → freeRuns (ch .loaded .tone .mode) ≡ true) → ShownSound s
     → ChannelSound (with ch p s)
 with-sound ch p s h f r g =
     record {
@@ -251,6 +251,20 @@ with-sound ch p s h f r g =
       free = r;
       shown = g;
       signal = h .signal;
+    }
+
+pub signal-sound : (ch : Channel) (g : Signal) → ChannelSound ch → SignalSound g → ChannelSound (withSignal ch g)
+signal-sound ch g h k =
+    record {
+      phase = h .phase;
+      level = h .level;
+      table = h .table;
+      scale = h .scale;
+      offset = h .offset;
+      tone = h .tone;
+      free = h .free;
+      shown = h .shown;
+      signal = k;
     }
 
 copied-small : (n : ℕ) (s : List ℕ) (from : ℕ) (l : List ℕ) (to : ℕ) → ((a : ℕ) → word s a < 65536) → ((i : ℕ) → word l i < 65536)
@@ -366,20 +380,8 @@ module _ (s : List ℕ) (w : Words s) (l : List ℕ) (c : ℕ) (inside : c < 4) 
   unfolding tickOf
   tick-sound u =
       let m : MoveSound (moveOf s l c ch) = move-in (ch .phase) (h .phase) (h .free) in
-      let k = m .channel in
       record {
-        channel =
-            record {
-              phase = k .phase;
-              level = k .level;
-              table = k .table;
-              scale = k .scale;
-              offset = k .offset;
-              tone = k .tone;
-              free = k .free;
-              shown = k .shown;
-              signal = made-sound u c _ _ _ _ (m .gave) (k .tone) (k .signal);
-            };
+        channel = signal-sound (moveOf s l c ch .channel) _ (m .channel) (made-sound u c _ _ _ _ (m .gave) (m .channel .tone) (m .channel .signal));
         tables = m .tables;
       }
 

@@ -19,8 +19,10 @@ use Rattle.slots.specs.declared.Holder.the-variants.{Level, Nobody}
 use Rattle.slots.specs.Slots.{holderOf}
 use Rattle.slots.proofs.Fills.{filled-length, filled-in}
 use Rattle.slots.proofs.Holders.{level-held}
+use Rattle.channel.specs.declared.Phase.the-variants.{Rest}
 use Rattle.channel.specs.declared.Channel.{Channel}
-use Rattle.channel.specs.Channel.{Side, word, resetChannel, tickOf, triggered, outputTo, overflowCleared}
+use Rattle.channel.specs.Ramp.{place}
+use Rattle.channel.specs.Channel.{Side, with, word, noTone, resetChannel, tickOf, triggered, outputTo, overflowCleared}
 use Rattle.card.specs.declared.Card.{Card}
 use Rattle.card.specs.Card.{State, state, All, noChannel, channelOf, withChannel, countOf, withCount, withChannels, onAll}
 use Rattle.card.specs.Active.{cause, someLoaded}
@@ -36,25 +38,37 @@ use Rattle.history.specs.History.{Act, Tick, Write, Read, HandIn, Reset,
 use Rattle.history.specs.Sound.{Tables, ChannelSound, CauseSound, Sound, Reachable}
 use Rattle.history.proofs.Addresses.{slot-register}
 use Rattle.history.proofs.Words.{Passed, set-word, stored, erased-words, reset-words}
-use Rattle.history.proofs.Channels.{SideSound, tick-sound, strike-sound}
+use Rattle.history.proofs.Channels.{SideSound, with-sound, signal-sound, tick-sound, strike-sound}
 use Rattle.history.proofs.Cards.{channel-other, channel-either, count-keeps, count-channels, count-many}
 use Rattle.history.proofs.Writing.{write-by}
 
 -- ---- the four channels
 
-no-channel-sound : ChannelSound noChannel
-no-channel-sound =
+-- at rest, as a reset leaves it but for the scale factor
+resting : (scale : ℕ) → scale < 65536
+    → ChannelSound
+    (record {
+      phase = Rest;
+      level = 0;
+      loaded = record { table = 0; scale = scale; offset = 0; tone = noTone };
+      shown = record { amplitude = 0; place = place 0 0 };
+      signal = record { output = 0; overflow = 0; counter = 0 };
+    })
+resting scale h =
     record {
       phase = tt;
       level = omega arith;
       table = omega arith;
-      scale = omega arith;
+      scale = h;
       offset = omega arith;
       tone = record { mode = refl; frequency = omega arith; phase = omega arith };
       free = λ e. absurd (true≢false (sym e));
       shown = record { amplitude = omega arith; segment = omega arith; left = omega arith };
       signal = record { output = omega arith; overflow = omega arith; counter = omega arith };
     }
+
+no-channel-sound : ChannelSound noChannel
+no-channel-sound = resting 0 (omega arith)
 
 four-sound : (k : Card) (a b c d : Channel) → ChannelSound a → ChannelSound b → ChannelSound c → ChannelSound d
     → (j : ℕ) → ChannelSound (channelOf (withChannels k (a ∷ b ∷ c ∷ d ∷ [])) j)
@@ -214,31 +228,12 @@ module _ (st : State) (h : Sound st) where
 
   output-sound : (ch : Channel) (v : ℕ) → v < 65536 → ChannelSound ch → ChannelSound (outputTo ch v)
   output-sound ch v i g =
-      record {
-        phase = g .phase;
-        level = g .level;
-        table = g .table;
-        scale = g .scale;
-        offset = g .offset;
-        tone = g .tone;
-        free = g .free;
-        shown = record { amplitude = i; segment = g .shown .segment; left = g .shown .left };
-        signal = record { output = i; overflow = g .signal .overflow; counter = g .signal .counter };
-      }
+      signal-sound (with ch (ch .phase) (record { amplitude = v; place = ch .shown .place })) _
+      (with-sound ch (ch .phase) _ g (g .phase) (g .free) (record { amplitude = i; segment = g .shown .segment; left = g .shown .left }))
+      (record { output = i; overflow = g .signal .overflow; counter = g .signal .counter })
 
   overflow-sound : (ch : Channel) → ChannelSound ch → ChannelSound (overflowCleared ch)
-  overflow-sound ch g =
-      record {
-        phase = g .phase;
-        level = g .level;
-        table = g .table;
-        scale = g .scale;
-        offset = g .offset;
-        tone = g .tone;
-        free = g .free;
-        shown = g .shown;
-        signal = record { output = g .signal .output; overflow = omega arith; counter = g .signal .counter };
-      }
+  overflow-sound ch g = signal-sound ch _ g (record { output = g .signal .output; overflow = omega arith; counter = g .signal .counter })
 
   stored-sound : (a v : ℕ) → v < 65536 → Passed (st .settings) (st .card) (registerOf a) v → Sound (performOf st a (Keep v))
   stored-sound a v i p = record { settings = stored (st .settings) (h .settings) (st .card) a v i p; tables = h .tables; card = h .card }
@@ -282,18 +277,7 @@ reset-sound s l p q =
     }
   where
     fresh : ChannelSound resetChannel
-    fresh =
-        record {
-          phase = tt;
-          level = omega arith;
-          table = omega arith;
-          scale = omega arith;
-          offset = omega arith;
-          tone = record { mode = refl; frequency = omega arith; phase = omega arith };
-          free = λ e. absurd (true≢false (sym e));
-          shown = record { amplitude = omega arith; segment = omega arith; left = omega arith };
-          signal = record { output = omega arith; overflow = omega arith; counter = omega arith };
-        }
+    fresh = resting 0x0100 (omega arith)
 
     counts : (j : ℕ) (b : Bool) → ltb j 32 ≡ b → cond b (getD (replicate 32 0) j 0) 0 < 65536
     counts j true e = rw (getD-replicate {A = ℕ} 32 j 0 0 (ltb-true j 32 e)) (omega arith)

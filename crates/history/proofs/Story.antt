@@ -1,7 +1,7 @@
--- A channel's words show what its story tells (`channels-right`): a tick, a trigger and a word done each make of the channel what they add to
--- the story. Assumes nothing.
+-- A channel's words show what its story tells, and it keeps the amplitude and the counter told (`channels-right`): a tick, in both its passes,
+-- a trigger and a word done each make of the channel what they add to the story. Assumes nothing.
 use mathlib.Core.Path.{_≡_, refl, sym, ap, _∙_, subst}
-use mathlib.Core.Bool.{Bool, true, false, _||_, cond, true≢false}
+use mathlib.Core.Bool.{Bool, true, false, cond, true≢false}
 use mathlib.Core.List.{List, [], _∷_, _++_}
 use Prim.Native.Nat.{ℕ, zero, suc, _+_, _-_, _%_, _≤_, _<_}
 use native.Mathlib.Omega.{arith}
@@ -17,7 +17,7 @@ use Rattle.map.specs.Map.{base, registerOf}
 use Rattle.map.specs.Addresses.{enableAt}
 use Rattle.slots.specs.declared.Holder.{Holder}
 use Rattle.slots.specs.declared.Holder.the-variants.{Level, Nobody}
-use Rattle.word.specs.Word.{grown, lasting}
+use Rattle.word.specs.Word.{lasting}
 use Rattle.channel.specs.declared.Place.{Place}
 use Rattle.channel.specs.declared.Tone.{Tone}
 use Rattle.channel.specs.declared.Loaded.{Loaded}
@@ -79,19 +79,18 @@ module _ (w : List ℕ) (c : ℕ) (ch : Channel) (x : Told) (r : Right ch x) whe
   same-tone : ch .loaded .tone ≡ x .loaded .tone
   same-tone = ap (λ (d : Loaded). d .tone) (r .loaded)
 
+  -- at most 1 a sample
+  overflow-right : (y : Sum) (over : Bool) (n : ℕ) → signalAfter y over n (ch .signal) .overflow ≡ sounds y over n x .overflowed % 65536
+  overflow-right (Word v) true n = rw (r .overflow) (omega arith)
+  overflow-right (Word v) false n = r .overflow
+  overflow-right Overflow true n = rw (r .overflow) (omega arith)
+  overflow-right Overflow false n = rw (r .overflow) (omega arith)
+
   sounds-right : (y : Sum) (over : Bool) (n : ℕ) → Right (withSignal ch (signalAfter y over n (ch .signal))) (sounds y over n x)
   sounds-right (Word v) over n =
-      record { loaded = r .loaded; place = r .place; amplitude = r .amplitude; output = refl; overflow = overflow over; counter = refl }
-    where
-      overflow : (b : Bool) → cond b (grown (ch .signal .overflow)) (ch .signal .overflow) ≡ cond (b || false) (x .overflowed + 1) (x .overflowed) % 65536
-      overflow true = rw (r .overflow) (omega arith)
-      overflow false = r .overflow
+      record { loaded = r .loaded; place = r .place; amplitude = r .amplitude; output = refl; overflow = overflow-right (Word v) over n; counter = refl }
   sounds-right Overflow over n =
-      record { loaded = r .loaded; place = r .place; amplitude = r .amplitude; output = r .output; overflow = rw (r .overflow) (overflow over); counter = refl }
-    where
-      overflow : (b : Bool) → grown (x .overflowed % 65536) ≡ cond (b || true) (x .overflowed + 1) (x .overflowed) % 65536
-      overflow true = omega arith
-      overflow false = omega arith
+      record { loaded = r .loaded; place = r .place; amplitude = r .amplitude; output = r .output; overflow = overflow-right Overflow over n; counter = refl }
 
   -- in sine mode, of the amplitude at the counter
   sines-right : (over : Bool) (n m : ℕ) → n ≡ m → Right (withSignal ch (sineAfter w c n (ch .shown .amplitude) over (ch .signal))) (sines w c over m x)

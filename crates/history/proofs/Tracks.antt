@@ -1,5 +1,5 @@
--- A tick and a trigger of the card, seen from channel c; and a history without triggers, which is a few acts of the channel, told apart by
--- what they tick (`tracked`). Assumes nothing.
+-- A tick and a trigger of the card, seen from channel c: both passes of a tick are its turn, as `two-passes` of `card` has it; and a history
+-- without triggers, which is a few acts of the channel, told apart by what they tick (`tracked`). Assumes nothing.
 use mathlib.Core.Path.{_≡_, refl, sym, ap, _∙_}
 use mathlib.Core.Bool.{Bool, true, false, true≢false}
 use mathlib.Core.List.{List, [], _∷_, _++_}
