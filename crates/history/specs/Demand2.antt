@@ -13,6 +13,7 @@ use Rattle.history.specs.Triggers.{TriggerRule, ImageRight}
 use Rattle.history.specs.Story.{ChannelsRight, AtRest}
 use Rattle.history.specs.Countdowns.{CountdownsSet, OlderGoesOn}
 use Rattle.history.specs.Waves.{WavesRight}
+use Rattle.history.specs.Sines.{SinesOverHistories}
 use Rattle.history.specs.Active.{ActiveRight, NeverShows, ShownOnTime, LoadsNamed}
 
 -- N ticks at once are N acts, so what holds of histories holds of them
@@ -39,7 +40,8 @@ pub record Demand2 : Type 0 where
   pub channels : ChannelsRight
   pub rest : AtRest
   pub older : OlderGoesOn
-  -- the wave tables
+  -- the wave tables, and the sine
   pub waves : WavesRight
+  pub sines : SinesOverHistories
   -- N ticks, no event
   pub ticks : TicksAre
