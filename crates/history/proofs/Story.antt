@@ -423,6 +423,7 @@ module _ (c : ℕ) (inside : c < 4) where
         segment = rw (segment-register c inside) (ap (λ (p : Place). p .segment) (r .place));
         left = rw (left-register c inside) (ap (λ (p : Place). p .left .0) (r .place));
         overflow = rw (overflow-register c inside) (r .overflow);
+        tone = ap (λ (d : Loaded). d .tone) (r .loaded);
         amplitude = r .amplitude;
         counter = r .counter;
       }

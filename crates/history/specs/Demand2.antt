@@ -35,8 +35,8 @@ pub record Demand2 : Type 0 where
   pub named : LoadsNamed
   -- 0x4100 to 0x41FF
   pub image : ImageRight
-  -- A04, A30 to A34 and A39, amplitude and counter: what happens on the channel. When it happens is demand 3; before it nothing runs, and from a later trigger to
-  -- its load the older ramp goes on
+  -- A04, A30 to A34 and A39, tone, amplitude and counter: what happens on the channel. When it happens is demand 3; before it nothing runs,
+  -- and from a later trigger to its load the older ramp goes on
   pub channels : ChannelsRight
   pub rest : AtRest
   pub older : OlderGoesOn
