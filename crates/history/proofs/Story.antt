@@ -400,14 +400,14 @@ module _ (c : ℕ) (inside : c < 4) where
       next-words (Tick waves event) ys w = w
       next-words (Write start count ws) ys w = w .1
       next-words (Read start count ws) ys w = w
-      next-words (HandIn to ws) ys w = w .1
+      next-words (HandIn to ws) ys w = w
       next-words Reset ys w = w
 
       one-words : (y : Act) (ys : List Act) → Words16 (y ∷ ys) → Words16 (y ∷ [])
       one-words (Tick waves event) ys w = tt
       one-words (Write start count ws) ys w = (w .0, tt)
       one-words (Read start count ws) ys w = tt
-      one-words (HandIn to ws) ys w = (w .0, tt)
+      one-words (HandIn to ws) ys w = tt
       one-words Reset ys w = tt
 
       next-sound : (y : Act) (ys : List Act) → Words16 (y ∷ ys) → Sound (act st y)
