@@ -1,4 +1,5 @@
--- 'With A01 0' a tick is document 01's to the letter: its output is what the ramp's value is in document 01, the last sum in range.
+-- 'With A01 0' a tick is document 01's to the letter. Document 01's tick is `moveOf`, with the output where the amplitude is (`asOutput`): the
+-- ramp's value is its output, the last sum in range.
 use mathlib.Core.Path.{_≡_}
 use mathlib.Core.Bool.{Bool, true, false, cond}
 use mathlib.Core.List.{List}
@@ -47,7 +48,7 @@ pub record PlainTick (s w l : List ℕ) (c : ℕ) (ch : Channel) (x : Move) : Ty
   -- the wave tables do not matter
   pub waves : (v : List ℕ) → tickOf s v l c ch ≡ tickOf s w l c ch
 
--- of every channel whose ramp was loaded with A01 0 or 4
+-- of every channel whose ramp was loaded with A01 0 or 4 and is not in free run
 unfoldable pub PlainTicks : Type 0
 PlainTicks =
     (s w l : List ℕ) (c : ℕ) (ch : Channel) → isSine (ch .loaded .tone .mode) ≡ false → isFree (rampOf (ch .phase)) ≡ false

@@ -11,6 +11,7 @@ use Rattle.history.proofs.Triggers.{trigger-rule, image-right}
 use Rattle.history.proofs.Story.{channels-right, at-rest}
 use Rattle.history.proofs.Countdowns.{countdowns-set, older-goes-on}
 use Rattle.history.proofs.Waves.{waves-right}
+use Rattle.history.proofs.Sines.{sines-over-histories}
 use Rattle.history.proofs.Active.{active-right, never-shows, shown-on-time}
 use Rattle.history.proofs.Named.{loads-named}
 
@@ -37,6 +38,7 @@ demand2 =
       rest = at-rest;
       channels = channels-right;
       waves = waves-right;
+      sines = sines-over-histories;
       older = older-goes-on;
       ticks = ticks-are;
     }

@@ -18,6 +18,7 @@ pub mod Demand3
 pub mod Settings
 pub mod Counted
 pub mod Waves
+pub mod Sines
 pub mod Demand1
 pub mod Counts
 pub mod Triggers

@@ -313,7 +313,7 @@ acts-sound st [] w h = h
 acts-sound st (Tick waves event ∷ xs) w h = acts-sound (tickWith waves st event) xs w (tick-sound-card waves st event h)
 acts-sound st (Write start count ws ∷ xs) w h = acts-sound (writeOf st start count ws .state) xs (w .1) (write-sound st start count ws (w .0) h)
 acts-sound st (Read start count ws ∷ xs) w h = acts-sound st xs w h
-acts-sound st (HandIn to ws ∷ xs) w h = acts-sound st xs (w .1) h
+acts-sound st (HandIn to ws ∷ xs) w h = acts-sound st xs w h
 acts-sound st (Reset ∷ xs) w h =
     acts-sound (resetOf (st .settings) (st .tables)) xs w (reset-sound (st .settings) (st .tables) (h .settings .many) (h .tables .many))
 

@@ -399,14 +399,14 @@ module _ (c : ℕ) (inside : c < 4) where
       next-words (Tick waves event) ys w = w
       next-words (Write start count ws) ys w = w .1
       next-words (Read start count ws) ys w = w
-      next-words (HandIn to ws) ys w = w .1
+      next-words (HandIn to ws) ys w = w
       next-words Reset ys w = w
 
       one-words : (y : Act) (ys : List Act) → Words16 (y ∷ ys) → Words16 (y ∷ [])
       one-words (Tick waves event) ys w = tt
       one-words (Write start count ws) ys w = (w .0, tt)
       one-words (Read start count ws) ys w = tt
-      one-words (HandIn to ws) ys w = (w .0, tt)
+      one-words (HandIn to ws) ys w = tt
       one-words Reset ys w = tt
 
       next-sound : (y : Act) (ys : List Act) → Words16 (y ∷ ys) → Sound (act st y)
@@ -422,6 +422,7 @@ module _ (c : ℕ) (inside : c < 4) where
         segment = rw (segment-register c inside) (ap (λ (p : Place). p .segment) (r .place));
         left = rw (left-register c inside) (ap (λ (p : Place). p .left .0) (r .place));
         overflow = rw (overflow-register c inside) (r .overflow);
+        tone = ap (λ (d : Loaded). d .tone) (r .loaded);
         amplitude = r .amplitude;
         counter = r .counter;
       }

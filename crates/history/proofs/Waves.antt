@@ -24,7 +24,7 @@ use Rattle.card.specs.Reset.{wavesReset, resetOf}
 use Rattle.wavetable.specs.declared.Reply.the-variants.{Taken, Bad, Running}
 use Rattle.wavetable.specs.Hand.{Handed, handed, inWave, allInWave, badTable, handOf}
 use Rattle.history.specs.History.{Act, Tick, Write, Read, HandIn, Reset, act, isReset, ticksIn, until, wavesOn}
-use Rattle.history.specs.Waves.{GoodTable, HandedIn, WaveTables, wavesAfter, wavesIn, LentAsLeft, takenFor, tableBy, lastTable, WavesRight}
+use Rattle.history.specs.Waves.{GoodTable, HandedIn, WaveTables, wavesAfter, wavesIn, LentAsLeft, takenFor, tableBy, lastTable, RunsThrough, WavesRight}
 
 -- ---- the words of a table
 
@@ -213,6 +213,11 @@ kept st w (Read start count ws) e c b g i h = refl
 kept st w (HandIn to ws) e c b g i h = hand-kept (st .card) w to ws c g i h
 kept st w Reset e c b g i h = absurd (true≢false e)
 
+whole : (st : State) (w : List ℕ) (xs : List Act) (c : ℕ) → c < 4 → RunsThrough c st xs → (i : ℕ) → i < entries
+    → getD (wavesIn st w xs) (waveOf c + i) 0 ≡ getD w (waveOf c + i) 0
+whole st w [] c b r i h = refl
+whole st w (x ∷ xs) c b r i h = whole (act st x) (wavesAfter st w x) xs c b (r .2) i h ∙ kept st w x (r .0) c b (r .1) i h
+
 last : (s l w : List ℕ) → length w ≡ 4096 → (xs : List Act) (c : ℕ) → c < 4 → (i : ℕ) → i < entries
     → getD (wavesIn (resetOf s l) (wavesReset w) xs) (waveOf c + i) 0 ≡ getD (lastTable c (resetOf s l) (wavesReset w) xs (replicate 1024 0)) i 0
 last s l w n xs c b i h = shows-in c b (resetOf s l) (wavesReset w) xs (replicate 1024 0) (reset-shows c b w n) .same i h
@@ -236,4 +241,4 @@ pub wave-tables : WaveTables
 wave-tables = record { answered = answered; good = good; good-only = good-only }
 
 pub waves-right : WavesRight
-waves-right = record { last = last; inside = inside; read = read; kept = kept }
+waves-right = record { last = last; inside = inside; read = read; kept = kept; whole = whole }

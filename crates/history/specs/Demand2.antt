@@ -13,6 +13,7 @@ use Rattle.history.specs.Triggers.{TriggerRule, ImageRight}
 use Rattle.history.specs.Story.{ChannelsRight, AtRest}
 use Rattle.history.specs.Countdowns.{CountdownsSet, OlderGoesOn}
 use Rattle.history.specs.Waves.{WavesRight}
+use Rattle.history.specs.Sines.{SinesOverHistories}
 use Rattle.history.specs.Active.{ActiveRight, NeverShows, ShownOnTime, LoadsNamed}
 
 -- N ticks at once are N acts, so what holds of histories holds of them
@@ -34,12 +35,13 @@ pub record Demand2 : Type 0 where
   pub named : LoadsNamed
   -- 0x4100 to 0x41FF
   pub image : ImageRight
-  -- A04, A30 to A34 and A39, amplitude and counter: what happens on the channel. When it happens is demand 3; before it nothing runs, and from a later trigger to
-  -- its load the older ramp goes on
+  -- A04, A30 to A34 and A39, tone, amplitude and counter: what happens on the channel. When it happens is demand 3; before it nothing runs,
+  -- and from a later trigger to its load the older ramp goes on
   pub channels : ChannelsRight
   pub rest : AtRest
   pub older : OlderGoesOn
-  -- the wave tables
+  -- the wave tables, and the sine
   pub waves : WavesRight
+  pub sines : SinesOverHistories
   -- N ticks, no event
   pub ticks : TicksAre

@@ -51,13 +51,13 @@ abbrev pub Each : (ℕ → Type 0) → List ℕ → Type 0
 Each Q [] = Unit
 Each Q (v ∷ vs) = Q v × Each Q vs
 
--- 'words have 16 bits': those of every write, and of every wave table handed in
+-- 'words have 16 bits': those of every write
 abbrev pub Words16 : List Act → Type 0
 Words16 [] = Unit
 Words16 (Tick waves event ∷ xs) = Words16 xs
 Words16 (Write start count ws ∷ xs) = Each (λ v. v < 65536) ws × Words16 xs
 Words16 (Read start count ws ∷ xs) = Words16 xs
-Words16 (HandIn to ws ∷ xs) = Each (λ v. v < 65536) ws × Words16 xs
+Words16 (HandIn to ws ∷ xs) = Words16 xs
 Words16 (Reset ∷ xs) = Words16 xs
 
 -- ---- the words of a write

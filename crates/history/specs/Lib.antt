@@ -6,6 +6,7 @@ pub mod Frame
 pub mod Sound
 pub mod Triggers
 pub mod Waves
+pub mod Sines
 pub mod Demand1
 pub mod Settings
 pub mod Counts

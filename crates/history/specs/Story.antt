@@ -163,7 +163,7 @@ abbrev pub told : ℕ → Told → List Happening → Told
 told c x [] = x
 told c x (h ∷ hs) = told c (tell c x h) hs
 
--- the words of channel c read what is told, and it keeps the amplitude and the counter, which no address shows
+-- the words of channel c read what is told, and it keeps the tone, the amplitude and the counter, which no address shows
 pub record Shows (c : ℕ) (st : State) (x : Told) : Type 0 where
   pub output : readBack st (base c + 0xA04) ≡ x .output
   pub table : readBack st (base c + 0xA30) ≡ x .loaded .table
@@ -173,6 +173,7 @@ pub record Shows (c : ℕ) (st : State) (x : Told) : Type 0 where
   pub left : readBack st (base c + 0xA34) ≡ x .place .left .0
   -- 'grows by 1 (65,535 goes round to 0)'
   pub overflow : readBack st (base c + 0xA39) ≡ x .overflowed % 65536
+  pub tone : channelOf (st .card) c .loaded .tone ≡ x .loaded .tone
   pub amplitude : channelOf (st .card) c .shown .amplitude ≡ x .amplitude
   pub counter : channelOf (st .card) c .signal .counter ≡ x .counter
 

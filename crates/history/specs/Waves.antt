@@ -82,6 +82,11 @@ abbrev pub lastTable : ℕ → State → List ℕ → List Act → List ℕ → 
 lastTable c st w [] t = t
 lastTable c st w (x ∷ xs) t = lastTable c (act st x) (wavesAfter st w x) xs (tableBy c st w x t)
 
+-- channel c runs or free-runs before each of the acts, and none is a reset
+abbrev pub RunsThrough : ℕ → State → List Act → Type 0
+RunsThrough c st [] = Unit
+RunsThrough c st (x ∷ xs) = (isReset x ≡ false) × (runsOf (channelOf (st .card) c) ≡ true) × RunsThrough c (act st x) xs
+
 -- of 4,096 words, as every call has them by type
 pub record WavesRight : Type 0 where
   -- after any history of a card that was reset a channel's wave table is the last one taken, zeros where there is none
@@ -95,3 +100,6 @@ pub record WavesRight : Type 0 where
   -- no ramp that runs or free-runs sees its wave table change
   pub kept : (st : State) (w : List ℕ) (x : Act) → isReset x ≡ false → (c : ℕ) → c < 4 → runsOf (channelOf (st .card) c) ≡ true
       → (i : ℕ) → i < entries → getD (wavesAfter st w x) (waveOf c + i) 0 ≡ getD w (waveOf c + i) 0
+  -- so all samples of a ramp, and of its free run, read one table
+  pub whole : (st : State) (w : List ℕ) (xs : List Act) (c : ℕ) → c < 4 → RunsThrough c st xs → (i : ℕ) → i < entries
+      → getD (wavesIn st w xs) (waveOf c + i) 0 ≡ getD w (waveOf c + i) 0
