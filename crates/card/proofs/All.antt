@@ -7,16 +7,15 @@ use Rattle.channel.specs.declared.Channel.{Channel}
 use Rattle.channel.specs.declared.Ticked.{Ticked}
 use Rattle.channel.specs.Channel.{Side, Move, ticked, moveOf, tickOf}
 use Rattle.card.specs.declared.Card.{Card}
-use Rattle.card.specs.declared.Pass.{Pass}
 use Rattle.card.specs.Card.{State, channelOf, onAll}
-use Rattle.card.specs.Tick.{firstPass, secondPass, bothPasses}
+use Rattle.card.specs.Tick.{Pass, firstPass, secondPass, bothPasses}
 
 -- a channel and its tables are those of a side
 pub record Made (ch : Channel) (l : List ℕ) (s : Side) : Type 0 where
   pub channel : ch ≡ s .channel
   pub tables : l ≡ s .tables
 
-list4 : {a a′ b b′ c c′ d d′ : Channel} → a ≡ a′ → b ≡ b′ → c ≡ c′ → d ≡ d′ → a ∷ b ∷ c ∷ d ∷ [] ≡ a′ ∷ b′ ∷ c′ ∷ d′ ∷ []
+pub list4 : {a a′ b b′ c c′ d d′ : Channel} → a ≡ a′ → b ≡ b′ → c ≡ c′ → d ≡ d′ → a ∷ b ∷ c ∷ d ∷ [] ≡ a′ ∷ b′ ∷ c′ ∷ d′ ∷ []
 list4 {a} {a′} {b} {b′} {c} {c′} {d} {d′} p q r s =
     ap (λ (x : Channel). x ∷ b ∷ c ∷ d ∷ []) p
     ∙ ap (λ (x : Channel). a′ ∷ x ∷ c ∷ d ∷ []) q

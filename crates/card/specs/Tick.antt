@@ -3,13 +3,20 @@
 use mathlib.Core.List.{List, [], _∷_}
 use Prim.Native.Nat.{ℕ, zero, suc}
 use Rattle.channel.specs.declared.Channel.{Channel}
+use Rattle.channel.specs.declared.Ticked.{Ticked}
 use Rattle.channel.specs.Channel.{Move, moveOf, sounded, ticked}
-use Rattle.card.specs.declared.Pass.{Pass}
 use Rattle.card.specs.Card.{State, state, All, channelOf, withChannels}
 use Rattle.card.specs.Active.{showing}
 use Rattle.card.specs.Trigger.{eventOf}
 
--- the four channels after the first pass, one after the other over the loaded tables
+-- the four channels after the first pass, with the samples that they gave
+pub record Pass : Type 0 where
+  pub zero : Ticked
+  pub one : Ticked
+  pub two : Ticked
+  pub three : Ticked
+
+-- one after the other over the loaded tables
 pub record Passed : Type 0 where
   pub pass : Pass
   pub tables : List ℕ

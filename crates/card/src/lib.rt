@@ -2,16 +2,14 @@
 use channel::Channel;
 use channel::Loaded;
 use channel::Phase;
-use channel::Ticked;
 use slots::Holder;
 ghost use mathlib.Core.Path.{_≡_};
 ghost use mathlib.Core.Bool.{cond};
-ghost use mathlib.Core.List.{[], _∷_};
 ghost use Rattle.word.specs.Lent.{lent, left};
-ghost use Rattle.card.specs.Card.{before, Leaves, LeavesWhole, LeavesAll, noChannel, channelOf, withChannel, withChannels, countOf, withCount};
+ghost use Rattle.card.specs.Card.{before, Leaves, LeavesWhole, LeavesAll, noChannel, channelOf, withChannel, countOf, withCount};
 ghost use Rattle.card.specs.Active.{cause, someLoaded, showing};
 ghost use Rattle.card.specs.Trigger.{counted, keeping, struck, triggerOf, acceptedOf, eventOf};
-ghost use Rattle.card.specs.Tick.{firstPass, secondPass, advanced, tickWith, ticks};
+ghost use Rattle.card.specs.Tick.{advanced, tickWith, ticks};
 ghost use Rattle.card.specs.Reset.{settingsReset, wavesReset, cardReset, resetOf};
 
 // What causes a ramp: an accepted trigger's level, and its event, 0xFE if manual.
@@ -26,14 +24,6 @@ pub struct Card {
     pub counts: [u16; 32],
     pub active: Cause,
     pub pending: Cause,
-}
-
-// The four channels after the first pass of a tick, with the samples that they gave.
-pub struct Pass {
-    pub zero: Ticked,
-    pub one: Ticked,
-    pub two: Ticked,
-    pub three: Ticked,
 }
 
 // Settings, loaded tables, wave tables and card after a reset.
@@ -133,7 +123,7 @@ pub fn with_count(card: Card, level: usize, n: u16) -> Card
     k
 }
 
-// Every channel one microsecond on, in two passes; a load shows the pending trigger.
+// Every channel one microsecond on: all ramp values move, then the outputs are made; a load shows the pending trigger.
 fn advance(
     settings: &[u16; 16960],
     tables: &mut [u16; 512],
@@ -142,39 +132,24 @@ fn advance(
 ) -> Card
     ensures { λ r. ⌜ Leaves (advanced (lent waves) (before card settings tables)) r tables ⌝ }
 {
-    let pass = move_ramps(settings, tables, card);
-    show(make_outputs(waves, card, pass))
-}
-
-// First pass: every channel's ramp value moves.
-fn move_ramps(settings: &[u16; 16960], tables: &mut [u16; 512], card: Card) -> Pass
-    ensures { λ r. ⌜ (r ≡ firstPass (before card settings tables) .pass) × (left tables ≡ firstPass (before card settings tables) .tables) ⌝ }
-{
     let a = channel::move_ramp(settings, tables, 0, card.channels[0]);
     let b = channel::move_ramp(settings, tables, 1, card.channels[1]);
     let c = channel::move_ramp(settings, tables, 2, card.channels[2]);
     let d = channel::move_ramp(settings, tables, 3, card.channels[3]);
-    Pass {
-        zero: a,
-        one: b,
-        two: c,
-        three: d,
-    }
-}
-
-// Second pass: the outputs are made.
-fn make_outputs(waves: &[u16; 4096], card: Card, pass: Pass) -> Card
-    ensures { λ r. ⌜ r ≡ withChannels card (secondPass (lent waves) pass) ⌝ }
-{
-    let zero = pass.zero;
-    let one = pass.one;
-    let two = pass.two;
-    let three = pass.three;
-    let a = channel::make_output(waves, 0, zero);
-    let b = channel::make_output(waves, 1, one);
-    let c = channel::make_output(waves, 2, two);
-    let d = channel::make_output(waves, 3, three);
-    with_channels(card, a, b, c, d)
+    let counts = card.counts;
+    let active = card.active;
+    let pending = card.pending;
+    show(Card {
+        channels: [
+            channel::make_output(waves, 0, a),
+            channel::make_output(waves, 1, b),
+            channel::make_output(waves, 2, c),
+            channel::make_output(waves, 3, d),
+        ],
+        counts: counts,
+        active: active,
+        pending: pending,
+    })
 }
 
 // Every channel's countdown is set anew for a level.
@@ -185,13 +160,6 @@ fn strike(settings: &[u16; 16960], tables: &mut [u16; 512], card: Card, level: u
     let b = channel::trigger(settings, tables, 1, card.channels[1], level);
     let c = channel::trigger(settings, tables, 2, card.channels[2], level);
     let d = channel::trigger(settings, tables, 3, card.channels[3], level);
-    with_channels(card, a, b, c, d)
-}
-
-// The card with four other channels.
-fn with_channels(card: Card, a: Channel, b: Channel, c: Channel, d: Channel) -> Card
-    ensures { λ r. ⌜ r ≡ withChannels card (a ∷ b ∷ c ∷ d ∷ []) ⌝ }
-{
     let counts = card.counts;
     let active = card.active;
     let pending = card.pending;

@@ -115,18 +115,12 @@ pub fn move_ramp(settings: &[u16; 16960], tables: &mut [u16; 512], c: u16, ch: C
 pub fn make_output(waves: &[u16; 4096], c: u16, t: Ticked) -> Channel
     ensures { λ r. ⌜ r ≡ sounded (lent waves) c (t .channel) (t .gave) ⌝ }
 {
-    let ch = t.channel;
     let gave = t.gave;
-    let tone = ch.loaded.tone;
-    let signal = ch.signal;
-    let a = ch.shown.amplitude;
+    let ch = t.channel;
     match gave {
         Gave::NoSample => ch,
-        Gave::OfRamp(first, sum) => with_signal(
-            ch,
-            ramp_signal(waves, c, first, sum, tone, a, signal),
-        ),
-        Gave::OfFreeRun => with_signal(ch, free_signal(waves, c, tone, a, signal)),
+        Gave::OfRamp(first, sum) => ramp_output(waves, c, ch, first, sum),
+        Gave::OfFreeRun => free_output(waves, c, ch),
     }
 }
 
@@ -570,6 +564,26 @@ fn with_signal(ch: Channel, signal: Signal) -> Channel
         shown: shown,
         signal: signal,
     }
+}
+
+// The channel once a ramp's sample is given.
+fn ramp_output(waves: &[u16; 4096], c: u16, ch: Channel, first: bool, sum: Sum) -> Channel
+    ensures { λ r. ⌜ r ≡ sounded (lent waves) c ch (Gave.OfRamp first sum) ⌝ }
+{
+    let tone = ch.loaded.tone;
+    let signal = ch.signal;
+    let a = ch.shown.amplitude;
+    with_signal(ch, ramp_signal(waves, c, first, sum, tone, a, signal))
+}
+
+// The channel once a free run's sample is given.
+fn free_output(waves: &[u16; 4096], c: u16, ch: Channel) -> Channel
+    ensures { λ r. ⌜ r ≡ sounded (lent waves) c ch Gave.OfFreeRun ⌝ }
+{
+    let tone = ch.loaded.tone;
+    let signal = ch.signal;
+    let a = ch.shown.amplitude;
+    with_signal(ch, free_signal(waves, c, tone, a, signal))
 }
 
 // What a ramp's sample makes: its sine, or in plain mode its sum.

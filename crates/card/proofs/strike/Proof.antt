@@ -1,6 +1,6 @@
 -- `card::strike` meets its contract: the four channels, each over the tables that the one before left. Assumes nothing.
 use borrow.Author.Needs.{needs}
-use mathlib.Core.Path.{ap, _∙_}
+use mathlib.Core.Path.{ap}
 use Rattle.channel.specs.Channel.{triggered}
 use Rattle.card.specs.Card.{withChannels}
 use Rattle.card.proofs.All.{all-four}
@@ -31,19 +31,16 @@ element-copy-out-trigger-4 c = search needs
 trigger-requires-4 : tie.Need-trigger-requires-4
 trigger-requires-4 c κs = search needs
 
-with-channels-requires : tie.Need-with-channels-requires
-with-channels-requires c κs = search needs
-
 returns : tie.Need-returns
 returns c =
-    let a = c .before .before .before .before .before .before .before .before .before .before .before .before .before .args in
+    let a = c .before .before .before .before .before .before .before .before .before .before .before .before .before .before .before .args in
     let r =
     all-four (λ i l ch. triggered (a .settings .now) l i ch (a .level)) (a .t3)
-    (record { channel = c .before .before .before .before .before .before .before .before .before .before .trigger .ensures .0; tables = c .before .before .before .before .before .before .before .before .before .before .trigger .ensures .1 })
-    (record { channel = c .before .before .before .before .before .before .before .trigger2 .ensures .0; tables = c .before .before .before .before .before .before .before .trigger2 .ensures .1 })
-    (record { channel = c .before .before .before .before .trigger3 .ensures .0; tables = c .before .before .before .before .trigger3 .ensures .1 })
-    (record { channel = c .before .trigger4 .ensures .0; tables = c .before .trigger4 .ensures .1 }) in
-    (c .with-channels .ensures ∙ ap (withChannels (a .t3)) (r .0), r .1)
+    (record { channel = c .before .before .before .before .before .before .before .before .before .before .before .before .trigger .ensures .0; tables = c .before .before .before .before .before .before .before .before .before .before .before .before .trigger .ensures .1 })
+    (record { channel = c .before .before .before .before .before .before .before .before .before .trigger2 .ensures .0; tables = c .before .before .before .before .before .before .before .before .before .trigger2 .ensures .1 })
+    (record { channel = c .before .before .before .before .before .before .trigger3 .ensures .0; tables = c .before .before .before .before .before .before .trigger3 .ensures .1 })
+    (record { channel = c .before .before .before .trigger4 .ensures .0; tables = c .before .before .before .trigger4 .ensures .1 }) in
+    (ap (withChannels (a .t3)) (r .0), r .1)
 
 pub strike-spec : {M : Type 1} → statement M
 strike-spec =
@@ -57,5 +54,4 @@ strike-spec =
     trigger-requires-3
     element-copy-out-trigger-4
     trigger-requires-4
-    with-channels-requires
     returns)

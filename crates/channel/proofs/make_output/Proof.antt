@@ -6,7 +6,7 @@ use Prim.Native.Nat.{ℕ}
 use Rattle.channel.specs.declared.Gave.{Gave}
 use Rattle.channel.specs.declared.Channel.{Channel}
 use Rattle.channel.specs.Signal.{makeOf}
-use Rattle.channel.specs.Channel.{withSignal, sounded}
+use Rattle.channel.specs.Channel.{sounded}
 use Rattle.channel.proofs.make_output.Statement.{statement}
 use Rattle.channel.proofs.make_output.Tie as tie
 
@@ -19,34 +19,24 @@ enum-told c = search needs
 enum-known-gave : tie.Need-enum-known-gave
 enum-known-gave c = search needs
 
-ramp-signal-requires : tie.Need-ramp-signal-requires
-ramp-signal-requires c κs = search needs
-
-with-signal-requires : tie.Need-with-signal-requires
-with-signal-requires c κs = search needs
+ramp-output-requires : tie.Need-ramp-output-requires
+ramp-output-requires c κs = search needs
 
 enum-told-2 : tie.Need-enum-told-2
 enum-told-2 c = search needs
 
-free-signal-requires : tie.Need-free-signal-requires
-free-signal-requires c κs = search needs
-
-with-signal-requires-2 : tie.Need-with-signal-requires-2
-with-signal-requires-2 c κs = search needs
+free-output-requires : tie.Need-free-output-requires
+free-output-requires c κs = search needs
 
 returns : tie.Need-returns
 unfolding makeOf
-returns c = let a = c .before .before .before .before .before .args in told (a .waves .now) (a .c) (a .t .channel) (c .enum-told .given .1)
+returns c = let a = c .before .before .before .args in told (a .waves .now) (a .c) (a .t .channel) (c .enum-told .given .1)
 
 returns-2 : tie.Need-returns-2
-returns-2 c =
-    let a = c .before .before .before .before .before .before .before .before .args in
-    c .with-signal .ensures ∙ ap (withSignal (a .t .channel)) (c .before .ramp-signal .ensures) ∙ told (a .waves .now) (a .c) (a .t .channel) (c .before .before .before .gave .given .1)
+returns-2 c = let a = c .before .before .before .before .before .args in c .ramp-output .ensures ∙ told (a .waves .now) (a .c) (a .t .channel) (c .before .before .gave .given .1)
 
 returns-3 : tie.Need-returns-3
-returns-3 c =
-    let a = c .before .before .before .before .before .before .before .args in
-    c .with-signal2 .ensures ∙ ap (withSignal (a .t .channel)) (c .before .free-signal .ensures) ∙ told (a .waves .now) (a .c) (a .t .channel) (c .before .before .enum-told2 .given .1)
+returns-3 c = let a = c .before .before .before .before .args in c .free-output .ensures ∙ told (a .waves .now) (a .c) (a .t .channel) (c .before .enum-told2 .given .1)
 
 pub make-output-spec : {M : Type 1} → statement M
 make-output-spec =
@@ -54,11 +44,9 @@ make-output-spec =
     (tie.spec
     enum-told
     enum-known-gave
-    ramp-signal-requires
-    with-signal-requires
+    ramp-output-requires
     enum-told-2
-    free-signal-requires
-    with-signal-requires-2
+    free-output-requires
     returns
     returns-2
     returns-3)
