@@ -1,11 +1,14 @@
 // The card: four channels, triggers, clock events and ticks. Settings, loaded tables and wave tables are lent, the rest goes by value.
 use channel::Channel;
+use channel::Gave;
 use channel::Loaded;
 use channel::Phase;
+use channel::Ticked;
 use slots::Holder;
 ghost use mathlib.Core.Path.{_≡_};
 ghost use mathlib.Core.Bool.{cond};
 ghost use Rattle.word.specs.Lent.{lent, left};
+ghost use Rattle.channel.specs.Channel.{sounded};
 ghost use Rattle.card.specs.Card.{before, Leaves, LeavesWhole, LeavesAll, noChannel, channelOf, withChannel, countOf, withCount};
 ghost use Rattle.card.specs.Active.{cause, someLoaded, showing};
 ghost use Rattle.card.specs.Trigger.{counted, keeping, struck, triggerOf, acceptedOf, eventOf};
@@ -141,15 +144,27 @@ fn advance(
     let pending = card.pending;
     show(Card {
         channels: [
-            channel::make_output(waves, 0, a),
-            channel::make_output(waves, 1, b),
-            channel::make_output(waves, 2, c),
-            channel::make_output(waves, 3, d),
+            output_made(waves, 0, a),
+            output_made(waves, 1, b),
+            output_made(waves, 2, c),
+            output_made(waves, 3, d),
         ],
         counts: counts,
         active: active,
         pending: pending,
     })
+}
+
+// A channel after the second pass, which has nothing to do where no sample was given: nine times in ten.
+fn output_made(waves: &[u16; 4096], c: u16, t: Ticked) -> Channel
+    ensures { λ r. ⌜ r ≡ sounded (lent waves) c (t .channel) (t .gave) ⌝ }
+{
+    let gave = t.gave;
+    match gave {
+        Gave::NoSample => t.channel,
+        Gave::OfRamp(_, _) => channel::make_output(waves, c, t),
+        Gave::OfFreeRun => channel::make_output(waves, c, t),
+    }
 }
 
 // Every channel's countdown is set anew for a level.

@@ -1,18 +1,27 @@
--- A countdown that falls by one and one that a trigger sets, as the code tells the cases apart. Assumes nothing.
+-- A ramp that waits, a countdown that falls by one and one that a trigger sets, as the code tells the cases apart. Assumes nothing.
 use mathlib.Core.Path.{_≡_, refl, ap}
 use mathlib.Core.Bool.{Bool, true, false, cond}
 use mathlib.Core.List.{List}
 use Prim.Native.Nat.{ℕ, _-_, _≤_, _<_}
 use native.Mathlib.Omega.{arith}
 use lib.Dec.{eqb}
-use borrow.Author.Tests.{eq-eqb, ne-eqb}
+use borrow.Author.Tests.{lt-ltb, eq-eqb, ne-eqb}
 use Rattle.word.specs.Word.{lasting}
 use Rattle.map.specs.Addresses.{delayAt, enableAt}
 use Rattle.channel.specs.declared.Channel.{Channel}
+use Rattle.channel.specs.declared.Way.{Way}
+use Rattle.channel.specs.declared.Loaded.{Loaded}
+use Rattle.channel.specs.declared.Shown.{Shown}
 use Rattle.channel.specs.declared.Ramp.{Ramp}
+use Rattle.channel.specs.declared.Ramp.the-variants.{Going}
 use Rattle.channel.specs.declared.Phase.the-variants.{Rest, Counting}
-use Rattle.channel.specs.Ramp.{enter, given, advance}
+use Rattle.channel.specs.Ramp.{enter, given, sooner, unsampled, advance}
 use Rattle.channel.specs.Channel.{side, move, quiet, movedOn, with, word, firstOf, lead, load, start, countTo, countdown, counting, triggered}
+
+-- more than a tick to the next sample
+pub waits : (w : List ℕ) (f : ℕ) (l : Loaded) (s : Shown) (r : Way) → 1 < r .wait .0 → unsampled (Going (sooner r)) s ≡ advance w f l (Going r) s
+unfolding advance
+waits w f l s r h = rw (lt-ltb 1 (r .wait .0) h)
 
 module _ (s l : List ℕ) (c : ℕ) (ch : Channel) where
   -- a start leaves the tables

@@ -35,17 +35,17 @@ element-copy-out-move-ramp-4 c = search needs
 move-ramp-requires-4 : tie.Need-move-ramp-requires-4
 move-ramp-requires-4 c κs = search needs
 
-make-output-requires : tie.Need-make-output-requires
-make-output-requires c κs = search needs
+output-made-requires : tie.Need-output-made-requires
+output-made-requires c κs = search needs
 
-make-output-requires-2 : tie.Need-make-output-requires-2
-make-output-requires-2 c κs = search needs
+output-made-requires-2 : tie.Need-output-made-requires-2
+output-made-requires-2 c κs = search needs
 
-make-output-requires-3 : tie.Need-make-output-requires-3
-make-output-requires-3 c κs = search needs
+output-made-requires-3 : tie.Need-output-made-requires-3
+output-made-requires-3 c κs = search needs
 
-make-output-requires-4 : tie.Need-make-output-requires-4
-make-output-requires-4 c κs = search needs
+output-made-requires-4 : tie.Need-output-made-requires-4
+output-made-requires-4 c κs = search needs
 
 show-requires : tie.Need-show-requires
 show-requires c κs = search needs
@@ -62,7 +62,7 @@ returns c =
     (record { handed = c .before .before .before .before .before .before .before .before .move-ramp4 .ensures .0; tables = c .before .before .before .before .before .before .before .before .move-ramp4 .ensures .1 }) in (
       c .show .ensures
           ∙ ap (λ (chs : List Channel). showing (withChannels (a .t4) chs))
-          (list4 (c .before .before .before .before .make-output .ensures) (c .before .before .before .make-output2 .ensures) (c .before .before .make-output3 .ensures) (c .before .make-output4 .ensures))
+          (list4 (c .before .before .before .before .output-made .ensures) (c .before .before .before .output-made2 .ensures) (c .before .before .output-made3 .ensures) (c .before .output-made4 .ensures))
           ∙ ap (λ (p : Pass). showing (withChannels (a .t4) (secondPass (a .waves .now) p))) (r .0),
       r .1,
     )
@@ -79,9 +79,9 @@ advance-spec =
     move-ramp-requires-3
     element-copy-out-move-ramp-4
     move-ramp-requires-4
-    make-output-requires
-    make-output-requires-2
-    make-output-requires-3
-    make-output-requires-4
+    output-made-requires
+    output-made-requires-2
+    output-made-requires-3
+    output-made-requires-4
     show-requires
     returns)

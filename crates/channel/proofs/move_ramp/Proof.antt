@@ -28,14 +28,14 @@ count-requires c κs = search needs
 enum-known-p-2 : tie.Need-enum-known-p-2
 enum-known-p-2 c = search needs
 
-run-requires : tie.Need-run-requires
-run-requires c κs = search needs
+run-on-requires : tie.Need-run-on-requires
+run-on-requires c κs = search needs
 
 enum-known-p-3 : tie.Need-enum-known-p-3
 enum-known-p-3 c = search needs
 
-run-requires-2 : tie.Need-run-requires-2
-run-requires-2 c κs = search needs
+run-requires : tie.Need-run-requires
+run-requires c κs = search needs
 
 returns : tie.Need-returns
 unfolding moveAt
@@ -56,14 +56,14 @@ unfolding moveAt
 returns-3 c =
     let a = c .before .before .before .before .before .before .args in
     let e = told (a .settings .now) (a .tables .now) (a .c) (a .ch) (c .before .before .before .before .p2 .given .1) in
-    (c .run .ensures ∙ ap ticked e, ap (λ (x : Move). x .tables) e)
+    (c .run-on .ensures ∙ ap ticked e, ap (λ (x : Move). x .tables) e)
 
 returns-4 : tie.Need-returns-4
 unfolding moveAt
 returns-4 c =
     let a = c .before .before .before .before .before .before .args in
     let e = told (a .settings .now) (a .tables .now) (a .c) (a .ch) (c .before .before .before .before .p3 .given .1) in
-    (c .run2 .ensures ∙ ap ticked e, ap (λ (x : Move). x .tables) e)
+    (c .run .ensures ∙ ap ticked e, ap (λ (x : Move). x .tables) e)
 
 pub move-ramp-spec : {M : Type 1} → statement M
 move-ramp-spec =
@@ -74,9 +74,9 @@ move-ramp-spec =
     enum-known-p
     count-requires
     enum-known-p-2
-    run-requires
+    run-on-requires
     enum-known-p-3
-    run-requires-2
+    run-requires
     returns
     returns-2
     returns-3

@@ -14,15 +14,12 @@ use Rattle.channel.specs.declared.Ramp.{Ramp}
 use Rattle.channel.specs.declared.Ramp.the-variants.{Going, Free}
 use Rattle.channel.specs.Ramp.{next, way, sooner, unsampled, given, advance}
 use Rattle.channel.specs.Channel.{firstOf}
+use Rattle.channel.proofs.Counts.{waits}
 use Rattle.channel.proofs.step.Statement.{statement}
 use Rattle.channel.proofs.step.Tie as tie
 
 module _ (w : List ℕ) (f : ℕ) (l : Loaded) (s : Shown) where
-  -- more than a tick to the next sample, or not
-  waits : (r : Way) → 1 < r .wait .0 → unsampled (Going (sooner r)) s ≡ advance w f l (Going r) s
-  unfolding advance
-  waits r h = rw (lt-ltb 1 (r .wait .0) h)
-
+  -- no more than a tick to the next sample
   gives : (r : Way) → r .wait .0 ≤ 1 → given false w f l (r .period .0) (next w f (r .place)) s ≡ advance w f l (Going r) s
   unfolding advance
   gives r h = rw (le-ltb 1 (r .wait .0) h)
