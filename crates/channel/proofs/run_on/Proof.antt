@@ -24,7 +24,7 @@ quiet-requires : tie.Need-quiet-requires
 quiet-requires c κs = search needs
 
 returns : tie.Need-returns
-returns c = 
+returns c =
     let a = c .before .before .before .before .before .before .before .before .args in
     c .quiet .ensures
     ∙ ap (λ (x : Channel). record { channel = x; gave = NoSample })
