@@ -12,7 +12,6 @@ use borrow.Author.Tests.{eqb-true, eqb-false}
 use Rattle.word.specs.Word.{signedOf}
 use Rattle.word.proofs.Split.{dn}
 use Rattle.sum.specs.declared.Side.{Side}
-use Rattle.sum.specs.declared.Side.the-variants.{Within}
 use Rattle.sum.specs.declared.Sum.the-variants.{Overflow}
 use Rattle.sum.specs.Sample.{onSide}
 use Rattle.sum.specs.Product.{scaledBy, productOf}

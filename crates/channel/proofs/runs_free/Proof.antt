@@ -1,5 +1,4 @@
 -- `channel::runs_free` meets its contract, by bit 0. Assumes nothing.
-use borrow.Author.Needs.{needs}
 use borrow.Author.Tests.{eq-eqb, ne-eqb}
 use Rattle.channel.proofs.runs_free.Statement.{statement}
 use Rattle.channel.proofs.runs_free.Tie as tie
