@@ -83,7 +83,7 @@ module _ (c v : ℕ) (w : List ℕ) (a d : ℕ) where
         → next-tick z u x .channel .signal ≡ signalFor u w c v k (next-tick z u x .channel .shown .amplitude) (x .channel .signal)
     pub still : d ≤ t + 10 → (a ≡ 1 → (k : ℕ) → Plays w c v k → t + 1 ≡ d + 10 * k → ⊥) → next-tick z u x .channel .signal ≡ x .channel .signal
 
-  -- the same copy, another phase, other words shown and another signal
+  -- the same copy, another phase, another ramp value and another signal
   held-with : (x : Side) (p : Phase) (s : Shown) (g : Signal) → Held x → Held (side (withSignal (with (x .channel) p s) g) (x .tables))
   held-with x p s g h = record { loaded = h .loaded; table = h .table }
 

@@ -66,7 +66,7 @@ module _ (c : ℕ) (x : State) where
   but-kept : (a v : ℕ) → InBlock c a → But c x (performOf x a (Keep v))
   but-kept a v i = but-settings c x (set (x .settings) a v) (λ b d. getD-set-other (x .settings) a b v 0 (λ e. d (rw e i)))
 
-  -- the channel's words shown, its amplitude and its overflow count
+  -- the channel's output, its amplitude and its overflow count
   but-shown : (ch : Channel) → ch .phase ≡ channelOf (x .card) c .phase → ch .level ≡ channelOf (x .card) c .level → ch .loaded ≡ channelOf (x .card) c .loaded
       → ch .shown .place ≡ channelOf (x .card) c .shown .place → ch .signal .counter ≡ channelOf (x .card) c .signal .counter
       → But c x (state (withChannel (x .card) c ch) (x .settings) (x .tables))

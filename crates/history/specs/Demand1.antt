@@ -1,5 +1,5 @@
--- Demand 1 of transfers and of wave tables: 'A bad one gets its number from document 01, checked in the order given there. Words before the stopping word are
--- done with all their effects, and nothing else changes.'
+-- Demand 1 of transfers and of wave tables: 'A bad one gets its number from document 01, checked in the order given there. Words before
+-- the stopping word are done with all their effects, and nothing else changes.'
 use mathlib.Core.Path.{_≡_}
 use mathlib.Core.Bool.{true}
 use mathlib.Core.List.{List}
