@@ -1,29 +1,29 @@
 -- The whole table against the rows that the paper lists once: below 0x4000 the scan comes out where a channel's rows, raised to its base,
 -- hold the address; from there up, in the card's rows. By induction over the channels. Assumes nothing.
-use mathlib.Core.Path.{_≡_, refl, ap, _∙_, subst}
-use mathlib.Core.Bool.{Bool, true, false, _&&_, cond}
+use mathlib.Core.Path.{_≡_, refl, sym, ap, _∙_, subst}
+use mathlib.Core.Bool.{Bool, true, false, cond}
 use mathlib.Core.List.{List, [], _∷_, _++_, map}
 use mathlib.Core.Logic.{⊎-elim}
 use Prim.Native.Nat.{ℕ, zero, suc, _+_, _/_, _%_, _≤_, _<_}
 use native.Mathlib.Nat.{eq-or-lt-of-le}
 use native.Mathlib.Omega.{arith}
-use lib.Dec.{T, leb, ltb, ltb→lt}
-use lib.Ieee.Fits.{and-l, and-r}
+use lib.Dec.{T, leb}
 use borrow.Author.Tests.{le-leb, lt-leb, leb-true, leb-false}
 use Rattle.map.specs.Map.{Row, Hit, hit, miss, holds, scan, channelRows, cardRows, base, raised, block, regions, namedIn, registerOf, acceptedIn, acceptedAt}
 use Rattle.map.proofs.Rows.{ordered, nowhere, off-row}
+use Rattle.map.proofs.Order.{short, ends, others, order-raised, order-earlier, short-raised, order-append}
 
 -- ---- two tables, one after the other
 
-abbrev orElse : Hit → Hit → Hit
+abbrev pub orElse : Hit → Hit → Hit
 orElse (hit r) h = hit r
 orElse miss h = h
 
-or-miss : (h : Hit) → orElse h miss ≡ h
+pub or-miss : (h : Hit) → orElse h miss ≡ h
 or-miss (hit r) = refl
 or-miss miss = refl
 
-scan-append : (xs ys : List Row) (a : ℕ) → scan (xs ++ ys) a ≡ orElse (scan xs a) (scan ys a)
+pub scan-append : (xs ys : List Row) (a : ℕ) → scan (xs ++ ys) a ≡ orElse (scan xs a) (scan ys a)
 unfolding scan
 scan-append [] ys a = refl
 scan-append (r ∷ xs) ys a = go (holds (r .region) a) (scan-append xs ys a)
@@ -54,40 +54,38 @@ scan-raised b (r ∷ l) o = rw (leb-raised b (r .region .first) o, leb-raised b 
     go true e = refl
     go false e = e
 
-scan-below : (b : ℕ) (l : List Row) (a : ℕ) → a < b → scan (map (raised b) l) a ≡ miss
+pub scan-past : (e : ℕ) (l : List Row) (a : ℕ) → T (short e l) → e ≤ a → scan l a ≡ miss
 unfolding scan
-scan-below b [] a h = refl
-scan-below b (r ∷ l) a h = rw (off-row (raised b r .region) a (λ f g. absurd (omega arith))) (scan-below b l a h)
+scan-past e [] a t h = refl
+scan-past e (r ∷ l) a t h =
+    let k = ends e r l t in
+    rw (off-row (r .region) a (λ f g. absurd (omega arith))) (scan-past e l a (others e r l t) h)
 
--- every row ends below 0x1000: one test
-abbrev short : List Row → Bool
-short [] = true
-short (r ∷ rs) = ltb (r .region .last) 0x1000 && short rs
-
-scan-past : (b : ℕ) (l : List Row) (a : ℕ) → T (short l) → b + 0x1000 ≤ a → scan (map (raised b) l) a ≡ miss
-unfolding scan
-scan-past b [] a t h = refl
-scan-past b (r ∷ l) a t h =
-    let e = ltb→lt (r .region .last) 0x1000 (and-l (ltb (r .region .last) 0x1000) (short l) t) in
-    rw (off-row (raised b r .region) a (λ f g. absurd (omega arith))) (scan-past b l a (and-r (ltb (r .region .last) 0x1000) (short l) t) h)
-
--- ---- the channels' blocks and the card's rows
+-- ---- the channels' blocks and the card's rows: each row is tested once
 
 pub channel-ordered : T (ordered 0 channelRows)
 unfolding channelRows
 channel-ordered = tt
 
-channel-short : T (short channelRows)
+pub channel-short : T (short 0x1000 channelRows)
 unfolding channelRows
 channel-short = tt
 
-pub card-ordered : T (ordered 0 cardRows)
-unfolding cardRows
-card-ordered = tt
-
-card-high : T (ordered 0x4000 cardRows)
+pub card-high : T (ordered 0x4000 cardRows)
 unfolding cardRows
 card-high = tt
+
+pub card-ordered : T (ordered 0 cardRows)
+card-ordered = order-earlier 0x4000 0 cardRows (omega arith) card-high
+
+-- a block's rows are in order and stay within the block, whichever channel's it is
+block-ordered : (c : ℕ) → T (ordered (base c) (block c))
+unfolding block
+block-ordered c = subst (λ (n : ℕ). T (ordered n (block c))) (omega arith) (order-raised (base c) 0 channelRows channel-ordered)
+
+block-short : (c : ℕ) → T (short (base (suc c)) (block c))
+unfolding block
+block-short c = subst (λ (n : ℕ). T (short n (block c))) (omega arith) (short-raised (base c) 0x1000 channelRows channel-short)
 
 -- n channels from channel c on, and the card
 from : ℕ → ℕ → List Row
@@ -98,26 +96,35 @@ all-from : regions ≡ from 0 4
 unfolding regions from
 all-from = refl
 
-none-below : (n c a : ℕ) → c + n ≤ 4 → a < base c → scan (from c n) a ≡ miss
-unfolding from block
-none-below zero c a l h = nowhere 0x4000 cardRows card-high a (omega arith)
-none-below (suc n) c a l h = scan-append (block c) (from (suc c) n) a ∙ rw (scan-below (base c) channelRows a h) (none-below n (suc c) a (omega arith) (omega arith))
+from-ordered : (n c : ℕ) → c + n ≡ 4 → T (ordered (base c) (from c n))
+unfolding from
+from-ordered zero c h = order-earlier 0x4000 (base c) cardRows (omega arith) card-high
+from-ordered (suc n) c h =
+    order-append (base c) (base (suc c)) (block c) (from (suc c) n) (omega arith) (block-ordered c) (block-short c) (from-ordered n (suc c) (omega arith))
 
-in-block : (n c d o : ℕ) → c ≤ d → d < c + n → c + n ≤ 4 → o < 0x1000 → scan (from c n) (base d + o) ≡ raise (base d) (scan channelRows o)
+-- THE WHOLE TABLE IS IN ORDER
+pub in-order : T (ordered 0 regions)
+in-order = subst (λ (l : List Row). T (ordered 0 l)) (sym all-from) (from-ordered 4 0 refl)
+
+in-block : (n c d o : ℕ) → c ≤ d → d < c + n → c + n ≡ 4 → o < 0x1000 → scan (from c n) (base d + o) ≡ raise (base d) (scan channelRows o)
 unfolding from block
 in-block zero c d o g h l k = absurd (omega arith)
 in-block (suc n) c d o g h l k = scan-append (block c) (from (suc c) n) (base d + o) ∙ ⊎-elim here (λ m. there m (in-block n (suc c) d o m (omega arith) (omega arith) k)) (eq-or-lt-of-le g)
   where
     here : c ≡ d → orElse (scan (block c) (base d + o)) (scan (from (suc c) n) (base d + o)) ≡ raise (base d) (scan channelRows o)
-    here e = rw (e, scan-raised (base d) channelRows o, none-below n (suc d) (base d + o) (omega arith) (omega arith)) (or-miss (raise (base d) (scan channelRows o)))
+    here e =
+        rw (nowhere (base (suc c)) (from (suc c) n) (from-ordered n (suc c) (omega arith)) (base d + o) (omega arith), e, scan-raised (base d) channelRows o)
+        (or-miss (raise (base d) (scan channelRows o)))
 
     there : c < d → scan (from (suc c) n) (base d + o) ≡ raise (base d) (scan channelRows o) → orElse (scan (block c) (base d + o)) (scan (from (suc c) n) (base d + o)) ≡ raise (base d) (scan channelRows o)
-    there m e = rw (scan-past (base c) channelRows (base d + o) channel-short (omega arith)) e
+    there m e = rw (scan-past (base (suc c)) (block c) (base d + o) (block-short c) (omega arith)) e
 
-past-all : (n c a : ℕ) → c + n ≤ 4 → 0x4000 ≤ a → scan (from c n) a ≡ scan cardRows a
-unfolding from block
+past-all : (n c a : ℕ) → c + n ≡ 4 → 0x4000 ≤ a → scan (from c n) a ≡ scan cardRows a
+unfolding from
 past-all zero c a l h = refl
-past-all (suc n) c a l h = scan-append (block c) (from (suc c) n) a ∙ rw (scan-past (base c) channelRows a channel-short (omega arith)) (past-all n (suc c) a (omega arith) h)
+past-all (suc n) c a l h =
+    scan-append (block c) (from (suc c) n) a
+    ∙ rw (scan-past (base (suc c)) (block c) a (block-short c) (omega arith)) (past-all n (suc c) a (omega arith) h)
 
 -- ---- the scan of the whole table
 
@@ -125,10 +132,10 @@ pub in-channel : (a : ℕ) → a < 0x4000 → scan regions a ≡ raise (base (a 
 in-channel a h =
     ap (λ (l : List Row). scan l a) all-from
     ∙ subst (λ (z : ℕ). scan (from 0 4) z ≡ raise (base (a / 0x1000)) (scan channelRows (a % 0x1000))) (omega arith)
-    (in-block 4 0 (a / 0x1000) (a % 0x1000) (omega arith) (omega arith) (omega arith) (omega arith))
+    (in-block 4 0 (a / 0x1000) (a % 0x1000) (omega arith) (omega arith) refl (omega arith))
 
 pub in-card : (a : ℕ) → 0x4000 ≤ a → scan regions a ≡ scan cardRows a
-in-card a h = ap (λ (l : List Row). scan l a) all-from ∙ past-all 4 0 a (omega arith) h
+in-card a h = ap (λ (l : List Row). scan l a) all-from ∙ past-all 4 0 a refl h
 
 -- what a row says of the offset in its region, it says wherever the row is raised to
 named-raised : (h : Hit) (c b o : ℕ) → namedIn (raise b h) c (b + o) ≡ namedIn h c o

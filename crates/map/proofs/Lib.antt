@@ -1,4 +1,5 @@
 pub mod Rows
+pub mod Order
 pub mod Blocks
 pub mod Regions
 pub mod Values

@@ -1,52 +1,25 @@
 -- What a caller needs of the table: the regions are disjoint, an address lies in its region, and every address there has the same one.
 -- Assumes nothing.
-use mathlib.Core.Path.{_≡_, refl, sym, ap, _∙_}
-use mathlib.Core.Bool.{true, false}
-use Prim.Native.Nat.{ℕ, _+_, _≤_, _<_}
-use native.Mathlib.Numerals.{add-one}
+use mathlib.Core.Path.{_≡_, refl, ap}
+use Prim.Native.Nat.{ℕ, _≤_, _<_}
 use native.Mathlib.Omega.{arith}
-use lib.Dec.{T}
-use lib.ListN.{length, drop}
+use lib.ListN.{length}
 use Rattle.map.specs.declared.Region.{Region}
 use Rattle.map.specs.declared.Found.the-variants.{At}
-use Rattle.map.specs.Map.{Row, Hit, hit, miss, holds, scan, channelRows, cardRows, block, regions, rowOf, foundIn, regionOf}
-use Rattle.map.proofs.Rows.{ordered, apart, found, scan-row, Hits, at, hits}
+use Rattle.map.specs.Map.{Row, Hit, hit, miss, scan, regions, rowOf, foundIn, regionOf}
+use Rattle.map.proofs.Rows.{apart, found, Hits, at, hits}
+use Rattle.map.proofs.Blocks.{in-order}
 
--- the one test, over the whole table
-in-order : T (ordered 0 regions)
-unfolding regions block channelRows cardRows
-in-order = tt
-
-row-count : length regions ≡ 88
-unfolding regions block channelRows cardRows
-row-count = refl
-
-module _ (k : ℕ) (h : k < 88) where
-  inside-count : k < length regions
-  inside-count = rw row-count h
-
+module _ (k : ℕ) (h : k < length regions) where
   -- THE REGIONS ARE DISJOINT: of two rows, the one before ends before the other begins
   pub disjoint : (j : ℕ) → j < k → rowOf j .region .last < rowOf k .region .first
   unfolding rowOf
-  disjoint j g = apart 0 regions in-order j k g inside-count
+  disjoint j g = apart 0 regions in-order j k g h
 
   -- an address in row k belongs to that region
   pub listed : (a : ℕ) → rowOf k .region .first ≤ a → a ≤ rowOf k .region .last → regionOf a ≡ At (rowOf k .region)
   unfolding rowOf
-  listed a f g = rw (found 0 regions in-order k a inside-count f g)
-
-  -- the scan from row k on: it ends there, or goes on
-  pub here : (a : ℕ) → holds (rowOf k .region) a ≡ true → scan (drop k regions) a ≡ hit (rowOf k)
-  unfolding rowOf
-  here a e = scan-row regions k a inside-count ∙ rw e
-
-  pub on : (a : ℕ) → holds (rowOf k .region) a ≡ false → scan (drop (k + 1) regions) a ≡ scan (drop k regions) a
-  unfolding rowOf
-  on a e = rw add-one (sym (scan-row regions k a inside-count ∙ rw e))
-
-pub past : (a : ℕ) → scan (drop 88 regions) a ≡ miss
-unfolding regions block channelRows cardRows scan
-past a = refl
+  listed a f g = rw (found 0 regions in-order k a h f g)
 
 -- ---- the region of an address
 

@@ -2,17 +2,17 @@
 use mathlib.Core.Path.{_≡_, refl, sym, _∙_, subst}
 use mathlib.Core.Bool.{Bool, true, false, _&&_, _||_, cond}
 use mathlib.Core.List.{List, [], _∷_}
+use mathlib.Core.Logic.{⊎-elim}
 use Prim.Native.Nat.{ℕ, zero, suc, _≤_, _<_, _-_}
 use native.Mathlib.Omega.{arith}
-use native.Mathlib.Nat.{le-of-suc-le-suc, not-suc-le-zero}
+use native.Mathlib.Nat.{le-of-suc-le-suc, not-suc-le-zero, eq-or-lt-of-le}
 use lib.Dec.{T, leb, ltb, eqb, leb→le, ltb→lt, eqb→eq}
 use lib.Ieee.Fits.{and-l, and-r}
-use lib.ListN.{length, getD, drop}
-use lib.Seq.{drop-cons}
+use lib.ListN.{length, getD}
 use borrow.Author.Tests.{le-leb}
 use Rattle.map.specs.declared.Region.{Region}
 use Rattle.map.specs.declared.Register.the-variants.{Unlisted}
-use Rattle.map.specs.Map.{Row, hit, miss, holds, scan, noRow, namedIn}
+use Rattle.map.specs.Map.{Row, Hit, hit, miss, holds, scan, noRow, namedIn}
 
 -- ---- the order
 
@@ -25,13 +25,13 @@ module _ (p : ℕ) (r : Row) (rs : List Row) (t : T (ordered p (r ∷ rs))) wher
   tail : T (leb (r .region .first) (r .region .last) && ordered (suc (r .region .last)) rs)
   tail = and-r (leb p (r .region .first)) (leb (r .region .first) (r .region .last) && ordered (suc (r .region .last)) rs) t
 
-  begins : p ≤ r .region .first
+  pub begins : p ≤ r .region .first
   begins = leb→le p (r .region .first) (and-l (leb p (r .region .first)) (leb (r .region .first) (r .region .last) && ordered (suc (r .region .last)) rs) t)
 
-  some : r .region .first ≤ r .region .last
+  pub some : r .region .first ≤ r .region .last
   some = leb→le (r .region .first) (r .region .last) (and-l (leb (r .region .first) (r .region .last)) (ordered (suc (r .region .last)) rs) tail)
 
-  rest : T (ordered (suc (r .region .last)) rs)
+  pub rest : T (ordered (suc (r .region .last)) rs)
   rest = and-r (leb (r .region .first) (r .region .last)) (ordered (suc (r .region .last)) rs) tail
 
 -- every row of an ordered table begins at p or past it
@@ -50,6 +50,32 @@ apart p [] t j k g h = absurd (not-suc-le-zero h)
 apart p (r ∷ rs) t j zero g h = absurd (not-suc-le-zero g)
 apart p (r ∷ rs) t zero (suc k) g h = from (suc (r .region .last)) rs (rest p r rs t) k (le-of-suc-le-suc h)
 apart p (r ∷ rs) t (suc j) (suc k) g h = apart (suc (r .region .last)) rs (rest p r rs t) j k (le-of-suc-le-suc g) (le-of-suc-le-suc h)
+
+-- no row of an ordered table is empty
+not-empty : (p : ℕ) (l : List Row) → T (ordered p l) → (k : ℕ) → k < length l → getD l k noRow .region .first ≤ getD l k noRow .region .last
+not-empty p [] t k h = absurd (not-suc-le-zero h)
+not-empty p (r ∷ rs) t zero h = some p r rs t
+not-empty p (r ∷ rs) t (suc k) h = not-empty (suc (r .region .last)) rs (rest p r rs t) k (le-of-suc-le-suc h)
+
+-- an address before row k is before all rows after it, and one past row k is past all rows before it
+module _ (p : ℕ) (l : List Row) (t : T (ordered p l)) (k : ℕ) (h : k < length l) (a : ℕ) where
+  pub before-later : a < getD l k noRow .region .first → (j : ℕ) → k ≤ j → j < length l → a < getD l j noRow .region .first
+  before-later f j g i = ⊎-elim same later (eq-or-lt-of-le g)
+    where
+      same : k ≡ j → a < getD l j noRow .region .first
+      same e = rw (← e) f
+
+      later : k < j → a < getD l j noRow .region .first
+      later m = let x = apart p l t k j m i in let y = not-empty p l t k h in omega arith
+
+  pub past-earlier : getD l k noRow .region .last < a → (j : ℕ) → j ≤ k → getD l j noRow .region .last < a
+  past-earlier f j g = ⊎-elim same earlier (eq-or-lt-of-le g)
+    where
+      same : j ≡ k → getD l j noRow .region .last < a
+      same e = rw e f
+
+      earlier : j < k → getD l j noRow .region .last < a
+      earlier m = let x = apart p l t j k m h in let y = not-empty p l t k h in omega arith
 
 -- ---- a row and an address
 
@@ -70,11 +96,6 @@ row-ends r a e =
     (leb→le (r .first) a (and-l (leb (r .first) a) (leb a (r .last)) t), leb→le a (r .last) (and-r (leb (r .first) a) (leb a (r .last)) t))
 
 -- ---- the scan
-
--- one row of it
-pub scan-row : (l : List Row) (k a : ℕ) → k < length l → scan (drop k l) a ≡ cond (holds (getD l k noRow .region) a) (hit (getD l k noRow)) (scan (drop (suc k) l) a)
-unfolding scan
-scan-row l k a h = rw (drop-cons l k noRow h)
 
 -- an address before p is in none of the rows
 pub nowhere : (p : ℕ) (l : List Row) → T (ordered p l) → (a : ℕ) → a < p → scan l a ≡ miss
@@ -117,6 +138,17 @@ hits (x ∷ l) a r e = go (holds (x .region) a) refl e (hits l a r)
     go : (b : Bool) → holds (x .region) a ≡ b → cond b (hit x) (scan l a) ≡ hit r → (scan l a ≡ hit r → Hits l a r) → Hits (x ∷ l) a r
     go true w e rec = let q = same e in let p = row-ends (x .region) a w in at 0 (omega arith) q (rw q at (p .0)) (rw q at (p .1))
     go false w e rec = later (rec e)
+
+-- where no row holds the address, the scan misses
+pub missed : (l : List Row) (a : ℕ) → ((k : ℕ) → k < length l → getD l k noRow .region .first ≤ a → a ≤ getD l k noRow .region .last → ⊥) → scan l a ≡ miss
+missed l a n = go (scan l a) refl
+  where
+    no : (r : Row) → Hits l a r → ⊥
+    no r (at k h e f g) = n k h (rw e f) (rw e g)
+
+    go : (h : Hit) → scan l a ≡ h → h ≡ miss
+    go (hit r) e = absurd (no r (hits l a r e))
+    go miss e = refl
 
 -- a rule of every row is a rule of the row that the scan hits
 
