@@ -1,6 +1,6 @@
 -- Digits read and written, and runs of stores. Assumes nothing.
 use mathlib.Core.Path.{_≡_, _∙_, ap, sym, refl}
-use mathlib.Core.Bool.{Bool, true, false, _&&_}
+use mathlib.Core.Bool.{Bool, true, false}
 use mathlib.Core.List.{List, [], _∷_, _++_, append-nil, append-assoc}
 use Prim.Native.Nat.{ℕ, zero, suc, _+_, _*_, _≤_, _<_, min}
 use native.Mathlib.Numerals.{add-one}
@@ -8,8 +8,8 @@ use native.Mathlib.Omega.{arith}
 use borrow.Author.Tests.{ltb-true, ltb-false, le-leb, lt-leb}
 use lib.Dec.{ltb}
 use lib.ListN.{length, set, getD, take, drop, length-append, length-set, List·getD-eq-default}
-use lib.Seq.{set-out, sets, sets-eq, drop-cons, take-suc, take-all, take-at, length-take-le}
-use Rattle.digits.specs.Digits.{inside, isDigit, allDigits, byteAt, wordAt, wordsFrom, hex2, hex4, hexAll}
+use lib.Seq.{set-out, sets, sets-eq, take-suc, take-all, take-at, length-take-le}
+use Rattle.digits.specs.Digits.{inside, byteAt, wordAt, wordsFrom, hex2, hex4, hexAll}
 
 -- ---- a byte among the digits
 
@@ -21,10 +21,6 @@ under lo hi b p = rw (lt-leb lo b p)
 
 pub over : (lo hi b : ℕ) → lo ≤ b → hi < b → inside lo hi b ≡ false
 over lo hi b p q = rw (le-leb lo b p, lt-leb b hi q)
-
-pub digits-at : (s : List ℕ) (i : ℕ) → i < length s → allDigits (drop i s) ≡ isDigit (getD s i 0) && allDigits (drop (i + 1) s)
-unfolding allDigits
-digits-at s i h = ap allDigits (drop-cons s i 0 h) ∙ ap (λ (k : ℕ). isDigit (getD s i 0) && allDigits (drop k s)) (sym (add-one i))
 
 -- ---- runs of stores
 

@@ -1,9 +1,10 @@
 -- 'Hexadecimal (0-9, A-F)': numbers read from digits and written as digits.
-use mathlib.Core.Bool.{Bool, true, _&&_, _||_, cond}
+use mathlib.Core.Bool.{Bool, _&&_, _||_, cond}
 use mathlib.Core.List.{List, [], _∷_, _++_}
 use Prim.Native.Nat.{ℕ, zero, suc, _+_, _*_, _-_, _/_, _%_}
 use lib.Dec.{leb, ltb}
 use lib.ListN.{getD}
+use Rattle.word.specs.Every.{every}
 
 -- ---- digits read
 
@@ -20,9 +21,8 @@ abbrev pub valueOf : ℕ → ℕ
 valueOf b = cond (inside 48 57 b) (b - 48) (cond (inside 65 70 b) (b - 55) 0)
 
 -- a line of digits alone
-unfoldable pub allDigits : List ℕ → Bool
-allDigits [] = true
-allDigits (b ∷ s) = isDigit b && allDigits s
+abbrev pub allDigits : List ℕ → Bool
+allDigits s = every isDigit s
 
 -- the numbers that the two digits, and the four digits, from place i on are
 unfoldable pub byteAt : List ℕ → ℕ → ℕ

@@ -13,6 +13,7 @@ use lib.Signed.{_≤ℤ_, ltZ, ltZ-yes, ltZ-no, leZ-yes, clashℤ}
 use borrow.Author.Tests.{ltb-false, le-ltb, eqb-true, eqb-false, eq-eqb}
 use Rattle.word.specs.Word.{signedOf}
 use Rattle.word.specs.Copy.{copied}
+use Rattle.word.specs.Every.{every}
 use Rattle.slots.proofs.Fills.{filled-length, filled-in}
 use Rattle.wave.specs.Sine.{entries, waveOf, waveAt}
 use Rattle.wave.specs.Laws.{InWave}
@@ -44,13 +45,13 @@ in-wave-only : (v : ℕ) → InWave (signedOf v) → T (inWave v)
 in-wave-only v h = and-i (notBelow v) (notAbove v) (not-less (negℤ (pos 16384)) (signedOf v) (h .least)) (not-less (signedOf v) (pos 16384) (h .most))
 
 all-in : (ws : List ℕ) → T (allInWave ws) → (i : ℕ) → i < length ws → InWave (signedOf (getD ws i 0))
-unfolding allInWave
+unfolding every
 all-in [] t i h = absurd (omega arith)
 all-in (v ∷ vs) t zero h = in-wave v (and-l (inWave v) (allInWave vs) t)
 all-in (v ∷ vs) t (suc i) h = all-in vs (and-r (inWave v) (allInWave vs) t) i (omega arith)
 
 all-only : (ws : List ℕ) → ((i : ℕ) → i < length ws → InWave (signedOf (getD ws i 0))) → T (allInWave ws)
-unfolding allInWave
+unfolding every
 all-only [] h = tt
 all-only (v ∷ vs) h = and-i (inWave v) (allInWave vs) (in-wave-only v (h 0 (omega arith))) (all-only vs (λ i k. h (suc i) (omega arith)))
 

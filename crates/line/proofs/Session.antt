@@ -10,6 +10,7 @@ use borrow.Author.Tests.{eq-eqb, ne-eqb, eqb-true, ltb-true, ltb-false, le-leb, 
 use lib.Dec.{eqb, ltb, leb}
 use lib.ListN.{length, set, take, drop, replicate, length-append, length-set, length-take, length-drop}
 use lib.Seq.{take-suc-set, take-all, take-append-le, length-take-le}
+use Rattle.word.specs.Every.{every}
 use Rattle.digits.specs.Digits.{allDigits, byteAt, wordAt, hex2, hex4, hexAll}
 use Rattle.card.specs.declared.Card.{Card}
 use Rattle.card.specs.Card.{State, state}
@@ -340,10 +341,10 @@ pub frames-read :
     × (frameOf (48 ∷ 52 ∷ 49 ∷ 48 ∷ []) ≡ Event 16)
     × (frameOf (48 ∷ 51 ∷ 48 ∷ 48 ∷ 48 ∷ 97 ∷ []) ≡ Bad)
     × (frameOf [] ≡ Bad)
-unfolding frameOf allDigits byteAt wordAt writeFrame readFrame ticksFrame eventFrame
+unfolding frameOf every byteAt wordAt writeFrame readFrame ticksFrame eventFrame
 frames-read = (refl, refl, refl, refl, refl, refl)
 
 -- an empty line, a bad one and a last one with no LF have an answer each: LF, "G" LF, "03"
 pub bad-session : (settings tables waves : List ℕ) → session settings tables waves (10 ∷ 71 ∷ 10 ∷ 48 ∷ 51 ∷ []) ≡ 70 ∷ 70 ∷ 10 ∷ 70 ∷ 70 ∷ 10 ∷ 70 ∷ 70 ∷ 10 ∷ []
-unfolding session linesFrom answersOf stepOf frameOf allDigits byteAt wordAt ticksFrame hex2
+unfolding session linesFrom answersOf stepOf frameOf every byteAt wordAt ticksFrame hex2
 bad-session settings tables waves = refl

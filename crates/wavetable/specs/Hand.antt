@@ -1,7 +1,7 @@
 -- Document 02, Two: 'the wave table is handed in whole as 1,024 words, each −16384 to 16384'.
 use mathlib.Core.Path.{_≡_}
-use mathlib.Core.Bool.{Bool, true, not, _&&_, _||_, cond}
-use mathlib.Core.List.{List, [], _∷_}
+use mathlib.Core.Bool.{Bool, not, _&&_, _||_, cond}
+use mathlib.Core.List.{List}
 use Prim.Native.Nat.{ℕ}
 use lib.Dec.{ltb, eqb}
 use lib.IntN.{pos, negℤ}
@@ -10,6 +10,7 @@ use lib.Signed.{ltZ}
 use Rattle.word.specs.Word.{signedOf}
 use Rattle.word.specs.Lent.{Lent, left}
 use Rattle.word.specs.Copy.{copied}
+use Rattle.word.specs.Every.{every}
 use Rattle.wave.specs.Sine.{entries, waveOf}
 use Rattle.channel.specs.Channel.{runsOf}
 use Rattle.card.specs.declared.Card.{Card}
@@ -21,9 +22,8 @@ use Rattle.wavetable.specs.declared.Reply.the-variants.{Taken, Bad, Runn
 abbrev pub inWave : ℕ → Bool
 inWave v = not (ltZ (signedOf v) (negℤ (pos 16384))) && not (ltZ (pos 16384) (signedOf v))
 
-unfoldable pub allInWave : List ℕ → Bool
-allInWave [] = true
-allInWave (v ∷ vs) = inWave v && allInWave vs
+abbrev pub allInWave : List ℕ → Bool
+allInWave ws = every inWave ws
 
 -- 9: 'for a channel above 3, a wrong length or a word out of range'
 abbrev pub badTable : ℕ → List ℕ → Bool

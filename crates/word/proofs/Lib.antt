@@ -1,3 +1,4 @@
 pub mod Sizes
 pub mod Split
 pub mod Number
+pub mod Every

@@ -1,12 +1,12 @@
 -- `digits::all_digits` meets its contract. The loop's invariant: the bytes from i on are all digits where the whole line's are.
 -- The measure is what is left of the line. Assumes nothing.
 use borrow.Author.Needs.{needs}
-use mathlib.Core.Path.{_≡_, sym, ap, _∙_}
+use mathlib.Core.Path.{_≡_, sym, _∙_}
 use Prim.Native.Nat.{_≤_, _-_}
-use lib.ListN.{length, drop, drop-of-length-le}
+use lib.ListN.{length, drop}
 use borrow.Author.Tests.{not-true, not-false}
-use Rattle.digits.specs.Digits.{allDigits}
-use Rattle.digits.proofs.Digits.{digits-at}
+use Rattle.word.proofs.Every.{stops, goes-on, all-passed}
+use Rattle.digits.specs.Digits.{isDigit, allDigits}
 use Rattle.digits.proofs.all_digits.Statement.{statement}
 use Rattle.digits.proofs.all_digits.Tie as tie
 
@@ -26,7 +26,10 @@ is-digit-requires : tie.Need-is-digit-requires Inv-loop μ-loop
 is-digit-requires c κs = search needs
 
 returns : tie.Need-returns Inv-loop μ-loop
-returns c = let st = c .before .before .before .before in let v = st .loop .inv in let h = sym (c .before .is-digit .ensures) ∙ not-true _ (c .if1 .taken) in sym (v .1 ∙ digits-at (st .before .before .args .s .now) (st .loop .i) (c .before .before .before .loop-test .taken) ∙ rw h)
+returns c =
+    let st = c .before .before .before .before in
+    stops isDigit (st .before .before .args .s .now) (st .loop .i) (st .loop .inv .1) (c .before .before .before .loop-test .taken)
+    (sym (c .before .is-digit .ensures) ∙ not-true _ (c .if1 .taken))
 
 add-i : tie.Need-add-i Inv-loop μ-loop
 add-i c = search needs
@@ -35,11 +38,15 @@ loop-less : tie.Need-loop-less Inv-loop μ-loop
 loop-less c = search needs
 
 loop-again : tie.Need-loop-again Inv-loop μ-loop
-loop-again c = let st = c .before .before .before .before in let v = st .loop .inv in let h = sym (c .before .is-digit .ensures) ∙ not-false _ (c .if1 .left) in (search needs, v .1 ∙ digits-at (st .before .before .args .s .now) (st .loop .i) (c .before .before .before .loop-test .taken) ∙ rw h)
+loop-again c =
+    let st = c .before .before .before .before in (
+      search needs,
+      goes-on isDigit (st .before .before .args .s .now) (st .loop .i) (st .loop .inv .1) (c .before .before .before .loop-test .taken)
+          (sym (c .before .is-digit .ensures) ∙ not-false _ (c .if1 .left)),
+    )
 
 returns-2 : tie.Need-returns-2 Inv-loop μ-loop
-unfolding allDigits
-returns-2 c = let st = c .before in sym (st .loop .inv .1 ∙ ap allDigits (drop-of-length-le (st .before .before .args .s .now) (c .loop-test .left)))
+returns-2 c = let st = c .before in all-passed isDigit (st .before .before .args .s .now) (st .loop .i) (st .loop .inv .1) (c .loop-test .left)
 
 pub all-digits-spec : {M : Type 1} → statement M
 all-digits-spec =

@@ -1,12 +1,12 @@
 -- `wavetable::all_in_wave` meets its contract. The loop's invariant: the words from i on are all in range where all of them are.
 -- The measure is what is left of the words. Assumes nothing.
 use borrow.Author.Needs.{needs}
-use mathlib.Core.Path.{_≡_, sym, ap, _∙_}
+use mathlib.Core.Path.{_≡_, sym, _∙_}
 use Prim.Native.Nat.{_≤_, _-_}
-use lib.ListN.{length, drop, drop-of-length-le}
+use lib.ListN.{length, drop}
 use borrow.Author.Tests.{not-true, not-false}
-use Rattle.wavetable.specs.Hand.{allInWave}
-use Rattle.wavetable.proofs.Words.{words-at}
+use Rattle.word.proofs.Every.{stops, goes-on, all-passed}
+use Rattle.wavetable.specs.Hand.{inWave, allInWave}
 use Rattle.wavetable.proofs.all_in_wave.Statement.{statement}
 use Rattle.wavetable.proofs.all_in_wave.Tie as tie
 
@@ -29,7 +29,10 @@ in-wave-requires : tie.Need-in-wave-requires Inv-loop μ-loop
 in-wave-requires c κs = search needs
 
 returns : tie.Need-returns Inv-loop μ-loop
-returns c = let st = c .before .before .before .before in let v = st .loop .inv in let h = sym (c .before .in-wave .ensures) ∙ not-true _ (c .if1 .taken) in sym (v .1 ∙ words-at (st .before .before .args .words .now) (st .loop .i) (c .before .before .before .loop-test .taken) ∙ rw h)
+returns c =
+    let st = c .before .before .before .before in
+    stops inWave (st .before .before .args .words .now) (st .loop .i) (st .loop .inv .1) (c .before .before .before .loop-test .taken)
+    (sym (c .before .in-wave .ensures) ∙ not-true _ (c .if1 .taken))
 
 add-i : tie.Need-add-i Inv-loop μ-loop
 add-i c = search needs
@@ -38,11 +41,15 @@ loop-less : tie.Need-loop-less Inv-loop μ-loop
 loop-less c = search needs
 
 loop-again : tie.Need-loop-again Inv-loop μ-loop
-loop-again c = let st = c .before .before .before .before in let v = st .loop .inv in let h = sym (c .before .in-wave .ensures) ∙ not-false _ (c .if1 .left) in (search needs, v .1 ∙ words-at (st .before .before .args .words .now) (st .loop .i) (c .before .before .before .loop-test .taken) ∙ rw h)
+loop-again c =
+    let st = c .before .before .before .before in (
+      search needs,
+      goes-on inWave (st .before .before .args .words .now) (st .loop .i) (st .loop .inv .1) (c .before .before .before .loop-test .taken)
+          (sym (c .before .in-wave .ensures) ∙ not-false _ (c .if1 .left)),
+    )
 
 returns-2 : tie.Need-returns-2 Inv-loop μ-loop
-unfolding allInWave
-returns-2 c = let st = c .before in sym (st .loop .inv .1 ∙ ap allInWave (drop-of-length-le (st .before .before .args .words .now) (c .loop-test .left)))
+returns-2 c = let st = c .before in all-passed inWave (st .before .before .args .words .now) (st .loop .i) (st .loop .inv .1) (c .loop-test .left)
 
 pub all-in-wave-spec : {M : Type 1} → statement M
 all-in-wave-spec =
