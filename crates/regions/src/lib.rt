@@ -26,7 +26,7 @@ fn base_of(address: u16) -> u16
     }
 }
 
-// The row that holds an offset, raised to a base. The rows are in order: it is the first that ends at the offset or past it, or none.
+// The row that holds an offset, raised to a base. The rows are in order: each one looked at rules out all before it, or all after.
 fn find(base: u16, offset: u16) -> Found
     requires { ⌜ base < 0x4000 ⌝ }
     ensures { λ r. ⌜ r ≡ raisedTo base (foundIn (scan once offset)) ⌝ }
@@ -37,16 +37,13 @@ fn find(base: u16, offset: u16) -> Found
     while k < end {
         let m = (k + end) / 2;
         let r = rows[m];
-        if r.1 < offset {
-            k = m + 1;
-        } else {
+        if offset < r.0 {
             end = m;
-        }
-    }
-    if k < 28 {
-        let r = rows[k];
-        if r.0 <= offset {
-            return Found::At(region(base, r));
+        } else {
+            if offset <= r.1 {
+                return Found::At(region(base, r));
+            }
+            k = m + 1;
         }
     }
     Found::Nothing
