@@ -27,6 +27,7 @@ fn base_of(address: u16) -> u16
 }
 
 // The row that holds an offset, raised to a base. The rows are in order: each one looked at rules out all before it, or all after.
+// The first look is at row 0, the ramp tables, where most words go; from then on it is at the row in the middle.
 fn find(base: u16, offset: u16) -> Found
     requires { ⌜ base < 0x4000 ⌝ }
     ensures { λ r. ⌜ r ≡ raisedTo base (foundIn (scan once offset)) ⌝ }
@@ -34,8 +35,8 @@ fn find(base: u16, offset: u16) -> Found
     let rows = REGIONS;
     let mut k: usize = 0;
     let mut end: usize = 28;
+    let mut m: usize = 0;
     while k < end {
-        let m = (k + end) / 2;
         let r = rows[m];
         if offset < r.0 {
             end = m;
@@ -45,6 +46,7 @@ fn find(base: u16, offset: u16) -> Found
             }
             k = m + 1;
         }
+        m = (k + end) / 2;
     }
     Found::Nothing
 }

@@ -2,9 +2,10 @@
 use borrow.Author.Needs.{needs}
 use mathlib.Core.Path.{_≡_, sym, ap, _∙_, subst}
 use mathlib.Core.List.{map}
+use mathlib.Core.Logic.{⊎-elim}
 use mathlib.Core.Bool.{Bool, true, false, not}
 use Prim.Native.Nat.{ℕ, _+_, _-_, _/_, _^_, _≤_, _<_}
-use native.Mathlib.Nat.{le-of-lt, le-trans, lt-of-lt-of-le}
+use native.Mathlib.Nat.{le-trans, lt-of-lt-of-le}
 use lib.Dec.{T, ltb, ltb→lt, nltb→le, lit≤}
 use native.Mathlib.Omega.{arith}
 use lib.ListN.{length, getD, List·getD-map}
@@ -41,23 +42,6 @@ Before o end = (j : ℕ) → end ≤ j → j < 28 → o < row j .region .first
 counted : (k : ℕ) → k < 28 → k < length once
 counted k h = rw once-count h
 
--- the row in the middle
-abbrev middle : ℕ → ℕ → ℕ
-middle k end = (k + end) / 2
-
-module _ (k end : ℕ) (h : k < end) (g : end ≤ 28) where
-  mid : middle k end < 28
-  mid = omega arith
-
-  next : middle k end + 1 < 2 ^ 64
-  next = let h : middle k end + 1 < 30 = omega arith in lt-of-lt-of-le h (lit≤ tt)
-
-  lower : middle k end - k < end - k
-  lower = omega arith
-
-  upper : end - (middle k end + 1) < end - k
-  upper = omega arith
-
 -- what a look at row m tells
 module _ (m o : ℕ) (h : m < 28) where
   rules-out-later : o < codeRow m .0 → Before o m
@@ -72,74 +56,89 @@ module _ (m o : ℕ) (h : m < 28) where
   holds-it : codeRow m .0 ≤ o → o ≤ codeRow m .1 → scan once o ≡ hit (row m)
   holds-it f g = found 0 once once-ordered m o (counted m h) (subst (λ (r : code.Row). r .0 ≤ o) (known m) f) (subst (λ (r : code.Row). o ≤ r .1) (known m) g)
 
+-- what a turn leaves of the rows from k to `end`
+abbrev Turn : ℕ → ℕ → ℕ → ℕ → ℕ → Type 0
+Turn o k end k′ end′ = (k′ ≤ end′) × (end′ ≤ 28) × Past o k′ × Before o end′ × (end′ - k′ < end - k)
+
+module _ (o k end m : ℕ) (h : k ≤ m) (g : m < end) (i : end ≤ 28) where
+  turn-lower : Past o k → Before o m → Turn o k end k m
+  turn-lower p b = (h, omega arith, p, b, omega arith)
+
+  turn-upper : Past o (m + 1) → Before o end → Turn o k end (m + 1) end
+  turn-upper p b = (omega arith, i, p, b, omega arith)
+
+-- the row in the middle is among them, and its number needs no more than 64 bits
+middle : (k end : ℕ) → k < end → (k ≤ (k + end) / 2) × ((k + end) / 2 < end)
+middle k end h = (omega arith, omega arith)
+
+small : (k end : ℕ) → k ≤ end → end ≤ 28 → k + end < 2 ^ 64
+small k end h g = let i : k + end < 57 = omega arith in lt-of-lt-of-le i (lit≤ tt)
+
 -- what is raised fits a word
 fits : (b f o e : ℕ) → b < 0x4000 → f ≤ o → o ≤ e → e < 0x4240 → (b + f < 65536) × (b + e < 65536)
 fits b f o e h g i k = (omega arith, omega arith)
 
 abbrev Inv-loop : tie.InvT-loop
-Inv-loop base offset rows k₀ end₀ k end = (end ≤ 28) × Past offset k × Before offset end
+Inv-loop base offset rows k₀ end₀ m₀ k end m = (end ≤ 28) × Past offset k × Before offset end × (k < end → (k ≤ m) × (m < end))
 
 abbrev μ-loop : tie.MeasureT-loop
-μ-loop base offset rows k₀ end₀ k end = end - k
+μ-loop base offset rows k₀ end₀ m₀ k end m = end - k
 
 loop-holds : tie.Need-loop-holds Inv-loop μ-loop
-loop-holds c = (omega arith, (λ j h. absurd (omega arith)), (λ j g h. absurd (omega arith)))
+loop-holds c = (omega arith, (λ j h. absurd (omega arith)), (λ j g h. absurd (omega arith)), λ h. (omega arith, omega arith))
 
-add-m : tie.Need-add-m Inv-loop μ-loop
-add-m c = search needs
+-- the row looked at is one of the table
+looked : (c : tie.In-loop Inv-loop μ-loop) → c .before .loop .m < 28
+looked c = let l = c .before .loop in lt-of-lt-of-le (l .inv .3 (c .loop-test .taken) .1) (l .inv .0)
 
 mul-r : tie.Need-mul-r Inv-loop μ-loop
-mul-r c = search needs
+mul-r c = let h = looked c in search needs
 
 array-copy-out-r : tie.Need-array-copy-out-r Inv-loop μ-loop
-array-copy-out-r c = search needs
-
-loop-less : tie.Need-loop-less Inv-loop μ-loop
-loop-less c = let i = c .before .before .before in lower (i .before .loop .k) (i .before .loop .end) (i .loop-test .taken) (i .before .loop .inv .0)
-
-loop-again : tie.Need-loop-again Inv-loop μ-loop
-unfolding once channelRows cardRows
-loop-again c =
-    let i = c .before .before .before in
-    let l = i .before .loop in
-    let m = mid (l .k) (l .end) (i .loop-test .taken) (l .inv .0) in
-    (le-of-lt m, l .inv .1, rules-out-later (middle (l .k) (l .end)) (i .before .before .args .offset) m (c .if1 .taken))
+array-copy-out-r c = let h = looked c in search needs
 
 region-requires : tie.Need-region-requires Inv-loop μ-loop
 unfolding once channelRows cardRows
 region-requires c κs =
     let i = c .before .before .before .before .before in
-    let l = i .before .loop in
-    let m = mid (l .k) (l .end) (i .loop-test .taken) (l .inv .0) in
     fits (i .before .before .args .base) _ (i .before .before .args .offset) _ (i .before .before .pre) (c .before .before .if1 .left) (c .if2 .taken)
-    (below (middle (l .k) (l .end)) (i .before .before .args .offset) m)
+    (below (i .before .loop .m) (i .before .before .args .offset) (looked i))
 
 returns : tie.Need-returns Inv-loop μ-loop
 unfolding once channelRows cardRows
 returns c =
     let i = c .before .before .before .before .before .before in
-    let l = i .before .loop in
-    let m = middle (l .k) (l .end) in
+    let m = i .before .loop .m in
     let b = i .before .before .args .base in
-    let o = i .before .before .args .offset in
     ap At (c .region .ensures)
     ∙ ap (λ (r : code.Row). At (record { first = b + r .0; last = b + r .1; access = r .2 })) (known m)
     ∙ ap (λ (h : Hit). raisedTo b (foundIn h))
-    (sym (holds-it m o (mid (l .k) (l .end) (i .loop-test .taken) (l .inv .0)) (c .before .before .before .if1 .left) (c .before .if2 .taken)))
+    (sym (holds-it m (i .before .before .args .offset) (looked i) (c .before .before .before .if1 .left) (c .before .if2 .taken)))
 
 add-k : tie.Need-add-k Inv-loop μ-loop
-add-k c = let i = c .before .before .before .before .before in record { fits = next (i .before .loop .k) (i .before .loop .end) (i .loop-test .taken) (i .before .loop .inv .0) }
+add-k c = let h = looked (c .before .before .before .before .before) in search needs
 
-loop-less-2 : tie.Need-loop-less-2 Inv-loop μ-loop
-loop-less-2 c = let i = c .before .before .before .before .before in upper (i .before .loop .k) (i .before .loop .end) (i .loop-test .taken) (i .before .loop .inv .0)
-
-loop-again-2 : tie.Need-loop-again-2 Inv-loop μ-loop
+-- after a look at row m
+turn : (c : tie.Joined1 Inv-loop μ-loop)
+    → Turn (c .before .before .before .before .before .args .offset) (c .before .before .before .before .loop .k) (c .before .before .before .before .loop .end) (c .if1 .k) (c .if1 .end)
 unfolding once channelRows cardRows
-loop-again-2 c =
-    let i = c .before .before .before .before .before in
+turn c =
+    let i = c .before .before .before in
     let l = i .before .loop in
-    let m = mid (l .k) (l .end) (i .loop-test .taken) (l .inv .0) in
-    (l .inv .0, rules-out-earlier (middle (l .k) (l .end)) (i .before .before .args .offset) m (c .if2 .left), l .inv .2)
+    let o = i .before .before .args .offset in
+    let w = l .inv .3 (i .loop-test .taken) in
+    ⊎-elim (λ x. rw (x .1, x .2) (turn-lower o (l .k) (l .end) (l .m) (w .0) (w .1) (l .inv .0) (l .inv .1) (rules-out-later (l .m) o (looked i) (x .0 .taken))))
+    (λ x. rw (x .3, x .4) (turn-upper o (l .k) (l .end) (l .m) (w .0) (w .1) (l .inv .0) (rules-out-earlier (l .m) o (looked i) (x .2 .left)) (l .inv .2)))
+    (c .if1 .came)
+
+add-m : tie.Need-add-m Inv-loop μ-loop
+add-m c = let t = turn (c .before .before) in record { fits = small (c .before .before .if1 .k) (c .before .before .if1 .end) (t .0) (t .1) }
+
+loop-less : tie.Need-loop-less Inv-loop μ-loop
+loop-less c = turn (c .before .before) .4
+
+loop-again : tie.Need-loop-again Inv-loop μ-loop
+loop-again c = let t = turn (c .before .before) in (t .1, t .2, t .3, middle (c .before .before .if1 .k) (c .before .before .if1 .end))
 
 returns-2 : tie.Need-returns-2 Inv-loop μ-loop
 returns-2 c = ap (λ (h : Hit). raisedTo (c .before .before .args .base) (foundIn h)) (sym (missed once o none))
@@ -165,14 +164,12 @@ find-spec =
     Inv-loop
     μ-loop
     loop-holds
-    add-m
     mul-r
     array-copy-out-r
-    loop-less
-    loop-again
     region-requires
     returns
     add-k
-    loop-less-2
-    loop-again-2
+    add-m
+    loop-less
+    loop-again
     returns-2)
