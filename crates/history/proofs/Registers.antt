@@ -13,7 +13,8 @@ use Rattle.map.specs.declared.Register.{Register}
 use Rattle.map.specs.declared.Register.the-variants as R
 use Rattle.map.specs.Map.{Row, Hit, hit, miss, scan, channelRows, cardRows, base, settings, namedIn, foundIn, regionOf, registerOf}
 use Rattle.map.proofs.Rows.{All, scan-all}
-use Rattle.map.proofs.Blocks.{raise, in-channel, in-card, channel-register}
+use Rattle.map.proofs.Order.{scan-short}
+use Rattle.map.proofs.Blocks.{raise, channel-short, in-channel, in-card, channel-register}
 use Rattle.history.specs.Effects.{isSetting, readWrite, excepted, SettingsAre}
 use Rattle.history.specs.Frame.{InBlock}
 
@@ -62,19 +63,9 @@ own c a h i =
 
 -- ---- the region
 
-abbrev Short : Row → Type 0
-Short r = r .region .last < 0x1000
-
-channel-short : All Short channelRows
-unfolding channelRows
-channel-short = (
-  omega arith,
-  (omega arith, (omega arith, (omega arith, (omega arith, (omega arith, (omega arith, (omega arith, (omega arith, (omega arith, (omega arith, (omega arith, (omega arith, (omega arith, (omega arith, (omega arith, (omega arith, (omega arith, (omega arith, (omega arith, tt))))))))))))))))))),
-)
-
 ends : (h : Hit) (b o : ℕ) (q : Region) → scan channelRows o ≡ h → foundIn (raise b h) ≡ At q → q .last < b + 0x1000
 ends (hit r) b o q e f =
-    let s = scan-all Short channelRows channel-short o r e in
+    let s = scan-short 0x1000 channelRows channel-short o r e in
     let l : b + r .region .last ≡ q .last = cc in
     omega arith
 ends miss b o q e f = let z : _≡_ {A = ℕ} 0 1 = cc in absurd (omega arith)

@@ -1,5 +1,5 @@
--- The whole table against the rows that the paper lists once: below 0x4000 the scan comes out where a channel's rows, raised to its base,
--- hold the address; from there up, in the card's rows. By induction over the channels. Assumes nothing.
+-- The whole table against the rows that the paper lists once. It is in order, since they are; below 0x4000 the scan comes out where a
+-- channel's rows, raised to its base, hold the address; from there up, in the card's rows. By induction over the channels. Assumes nothing.
 use mathlib.Core.Path.{_≡_, refl, sym, ap, _∙_, subst}
 use mathlib.Core.Bool.{Bool, true, false, cond}
 use mathlib.Core.List.{List, [], _∷_, _++_, map}
@@ -10,8 +10,8 @@ use native.Mathlib.Omega.{arith}
 use lib.Dec.{T, leb}
 use borrow.Author.Tests.{le-leb, lt-leb, leb-true, leb-false}
 use Rattle.map.specs.Map.{Row, Hit, hit, miss, holds, scan, channelRows, cardRows, base, raised, block, regions, namedIn, registerOf, acceptedIn, acceptedAt}
-use Rattle.map.proofs.Rows.{ordered, nowhere, off-row}
-use Rattle.map.proofs.Order.{short, ends, others, order-raised, order-earlier, short-raised, order-append}
+use Rattle.map.proofs.Rows.{ordered, nowhere}
+use Rattle.map.proofs.Order.{short, scan-past, order-raised, order-earlier, short-raised, order-append}
 
 -- ---- two tables, one after the other
 
@@ -53,13 +53,6 @@ scan-raised b (r ∷ l) o = rw (leb-raised b (r .region .first) o, leb-raised b 
     go : (t : Bool) → scan (map (raised b) l) (b + o) ≡ raise b (scan l o) → cond t (hit (raised b r)) (scan (map (raised b) l) (b + o)) ≡ raise b (cond t (hit r) (scan l o))
     go true e = refl
     go false e = e
-
-pub scan-past : (e : ℕ) (l : List Row) (a : ℕ) → T (short e l) → e ≤ a → scan l a ≡ miss
-unfolding scan
-scan-past e [] a t h = refl
-scan-past e (r ∷ l) a t h =
-    let k = ends e r l t in
-    rw (off-row (r .region) a (λ f g. absurd (omega arith))) (scan-past e l a (others e r l t) h)
 
 -- ---- the channels' blocks and the card's rows: each row is tested once
 

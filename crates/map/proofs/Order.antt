@@ -1,6 +1,6 @@
 -- The order of a table that is raised by a base, and of two tables one after the other: so one test of the rows that the paper lists
 -- once says it of every channel's. Assumes nothing.
-use mathlib.Core.Path.{subst}
+use mathlib.Core.Path.{_≡_, refl, subst}
 use mathlib.Core.Bool.{Bool, true, _&&_}
 use mathlib.Core.List.{List, [], _∷_, _++_, map}
 use Prim.Native.Nat.{ℕ, zero, suc, _+_, _≤_, _<_}
@@ -10,8 +10,8 @@ use lib.Dec.{T, ltb, ltb→lt}
 use lib.Ieee.Fits.{and-l, and-r}
 use lib.ListN.{length, getD}
 use borrow.Author.Tests.{le-leb, lt-ltb}
-use Rattle.map.specs.Map.{Row, raised, noRow}
-use Rattle.map.proofs.Rows.{ordered, begins, some, rest}
+use Rattle.map.specs.Map.{Row, hit, miss, scan, raised, noRow}
+use Rattle.map.proofs.Rows.{ordered, begins, some, rest, off-row, Hits, at, hits}
 
 -- a row before an ordered table
 before : (p : ℕ) (r : Row) (l : List Row) → p ≤ r .region .first → r .region .first ≤ r .region .last → T (ordered (suc (r .region .last)) l) → T (ordered p (r ∷ l))
@@ -46,11 +46,26 @@ short-at e [] t k h = absurd (not-suc-le-zero h)
 short-at e (r ∷ l) t zero h = ends e r l t
 short-at e (r ∷ l) t (suc k) h = short-at e l (others e r l t) k (le-of-suc-le-suc h)
 
+-- and so does the row that the scan hits
+pub scan-short : (e : ℕ) (l : List Row) → T (short e l) → (a : ℕ) (r : Row) → scan l a ≡ hit r → r .region .last < e
+scan-short e l t a r h = go (hits l a r h)
+  where
+    go : Hits l a r → r .region .last < e
+    go (at k i x f g) = subst (λ (r : Row). r .region .last < e) x (short-at e l t k i)
+
+-- past their ends no row holds an address
+pub scan-past : (e : ℕ) (l : List Row) (a : ℕ) → T (short e l) → e ≤ a → scan l a ≡ miss
+unfolding scan
+scan-past e [] a t h = refl
+scan-past e (r ∷ l) a t h =
+    let k = ends e r l t in
+    rw (off-row (r .region) a (λ f g. absurd (omega arith))) (scan-past e l a (others e r l t) h)
+
 pub short-raised : (b e : ℕ) (l : List Row) → T (short e l) → T (short (b + e) (map (raised b) l))
 short-raised b e [] t = tt
 short-raised b e (r ∷ l) t = let h = ends e r l t in rw (lt-ltb (b + r .region .last) (b + e) (omega arith)) (short-raised b e l (others e r l t))
 
--- THE RULE OF BLOCKS: a table that ends before the next begins
+-- THE RULE OF BLOCKS: two tables in order, the first ending before the second begins, are in order one after the other
 pub order-append : (p q : ℕ) (l m : List Row) → p ≤ q → T (ordered p l) → T (short q l) → T (ordered q m) → T (ordered p (l ++ m))
 order-append p q [] m h t s o = order-earlier q p m h o
 order-append p q (r ∷ l) m h t s o =

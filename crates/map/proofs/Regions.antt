@@ -6,20 +6,18 @@ use native.Mathlib.Omega.{arith}
 use lib.ListN.{length}
 use Rattle.map.specs.declared.Region.{Region}
 use Rattle.map.specs.declared.Found.the-variants.{At}
-use Rattle.map.specs.Map.{Row, Hit, hit, miss, scan, regions, rowOf, foundIn, regionOf}
+use Rattle.map.specs.Map.{Row, Hit, hit, miss, scan, channelRows, cardRows, block, regions, rowOf, foundIn, regionOf}
 use Rattle.map.proofs.Rows.{apart, found, Hits, at, hits}
 use Rattle.map.proofs.Blocks.{in-order}
 
-module _ (k : ℕ) (h : k < length regions) where
-  -- THE REGIONS ARE DISJOINT: of two rows, the one before ends before the other begins
-  pub disjoint : (j : ℕ) → j < k → rowOf j .region .last < rowOf k .region .first
-  unfolding rowOf
-  disjoint j g = apart 0 regions in-order j k g h
+row-count : length regions ≡ 88
+unfolding regions block channelRows cardRows
+row-count = refl
 
-  -- an address in row k belongs to that region
-  pub listed : (a : ℕ) → rowOf k .region .first ≤ a → a ≤ rowOf k .region .last → regionOf a ≡ At (rowOf k .region)
-  unfolding rowOf
-  listed a f g = rw (found 0 regions in-order k a h f g)
+-- THE REGIONS ARE DISJOINT: of two rows, the one before ends before the other begins
+pub disjoint : (k : ℕ) → k < 88 → (j : ℕ) → j < k → rowOf j .region .last < rowOf k .region .first
+unfolding rowOf
+disjoint k h j g = apart 0 regions in-order j k g (rw row-count h)
 
 -- ---- the region of an address
 

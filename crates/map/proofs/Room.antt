@@ -3,18 +3,16 @@ use mathlib.Core.Path.{_≡_, refl, sym}
 use mathlib.Core.Bool.{Bool, true, false, true≢false}
 use Prim.Native.Nat.{ℕ, _/_, _<_}
 use native.Mathlib.Omega.{arith}
-use lib.Dec.{ltb}
+use lib.Dec.{T, ltb}
 use borrow.Author.Tests.{ltb-true, ltb-false}
-use Rattle.map.specs.Map.{Row, Hit, hit, miss, scan, cardRows, namedIn, named, registerOf}
-use Rattle.map.proofs.Rows.{All, Hits, at, hits, scan-all}
+use Rattle.map.specs.Map.{Hit, hit, miss, scan, cardRows, namedIn, named, registerOf}
+use Rattle.map.proofs.Rows.{Hits, at, hits}
+use Rattle.map.proofs.Order.{short, scan-short}
 use Rattle.map.proofs.Blocks.{in-card}
 
-abbrev Short : Row → Type 0
-Short r = r .region .last < 16960
-
-card-short : All Short cardRows
+card-short : T (short 16960 cardRows)
 unfolding cardRows
-card-short = (omega arith, (omega arith, (omega arith, (omega arith, (omega arith, (omega arith, (omega arith, (omega arith, tt))))))))
+card-short = tt
 
 -- NO LISTED WORD LIES PAST THE LEVEL COUNTS
 pub named-below : (a : ℕ) → named (registerOf a) ≡ true → a < 16960
@@ -24,7 +22,7 @@ named-below a = go (ltb a 0x4000) refl
     in-rows (hit r) e n = by (hits cardRows a r e)
       where
         by : Hits cardRows a r → a < 16960
-        by (at k m x u v) = let s = scan-all Short cardRows card-short a r e in omega arith
+        by (at k m x u v) = let s = scan-short 16960 cardRows card-short a r e in omega arith
     in-rows miss e n = absurd (true≢false (sym n))
 
     go : (x : Bool) → ltb a 0x4000 ≡ x → named (registerOf a) ≡ true → a < 16960

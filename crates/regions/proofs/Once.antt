@@ -7,8 +7,8 @@ use lib.Dec.{T, ltb, ltb→lt, nltb→le}
 use lib.ListN.{length}
 use Rattle.map.specs.Map.{Hit, hit, miss, channelRows, cardRows, base, regions, scan, foundIn, regionOf}
 use Rattle.map.proofs.Rows.{ordered, nowhere}
-use Rattle.map.proofs.Order.{short, order-earlier, order-append}
-use Rattle.map.proofs.Blocks.{raise, or-miss, scan-append, scan-past, channel-ordered, channel-short, card-high, in-channel, in-card}
+use Rattle.map.proofs.Order.{short, scan-past, order-earlier, order-append}
+use Rattle.map.proofs.Blocks.{raise, or-miss, scan-append, channel-ordered, channel-short, card-high, in-channel, in-card}
 use Rattle.regions.specs.Once.{once, baseOf, raisedTo, regionOnce}
 
 -- the rows are in order: a channel's, which end within its block, then the card's, which begin past every block

@@ -15,7 +15,7 @@ pub fn region_of(address: u16) -> Found
     find(base, address - base)
 }
 
-// The base of the address's channel. From 0x4000 up there is none, and the card's rows are listed as they stand.
+// The base that an address is counted from: its channel's, and 0 from 0x4000 up, where the rows stand at their own addresses.
 fn base_of(address: u16) -> u16
     ensures { λ b. ⌜ b ≡ baseOf address ⌝ }
 {
@@ -26,7 +26,7 @@ fn base_of(address: u16) -> u16
     }
 }
 
-// The row that holds an offset, raised to a base. The rows are in order: each one looked at rules out all before it, or all after.
+// The row that holds an offset, raised to a base. The rows are in order: one that does not hold it rules out all before, or all after.
 // The first look is at row 0, the ramp tables, where most words go; from then on it is at the row in the middle.
 fn find(base: u16, offset: u16) -> Found
     requires { ⌜ base < 0x4000 ⌝ }

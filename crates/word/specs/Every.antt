@@ -1,4 +1,4 @@
--- A test of every word of a list.
+-- A test that every word, or byte, of a list passes.
 use mathlib.Core.Bool.{Bool, true, _&&_}
 use mathlib.Core.List.{List, [], _∷_}
 use Prim.Native.Nat.{ℕ}
