@@ -6,10 +6,11 @@ use Prim.Native.Nat.{ℕ}
 use lib.ListN.{length}
 use borrow.Author.Tests.{eq-eqb}
 use Rattle.map.specs.Map.{registerOf}
+use Rattle.map.specs.Settings.{isSetting}
 use Rattle.card.specs.Card.{State}
 use Rattle.transfer.specs.Word.{effectOf}
 use Rattle.history.specs.History.{readBack}
-use Rattle.history.specs.Effects.{isSetting, Does}
+use Rattle.history.specs.Effects.{Does}
 use Rattle.history.specs.Settings.{wordLeft}
 use Rattle.history.specs.Counted.{EachDone, CountedIsDone}
 use Rattle.history.proofs.Effects.{passed-does}

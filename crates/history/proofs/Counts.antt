@@ -11,6 +11,7 @@ use lib.Seq.{getD-set-same, getD-set-other}
 use borrow.Author.Tests.{lt-ltb, eq-eqb, ne-eqb, eqb-true, eqb-false}
 use Rattle.word.specs.Word.{grown}
 use Rattle.map.specs.Map.{registerOf}
+use Rattle.map.specs.Settings.{isSetting}
 use Rattle.slots.specs.declared.Holder.{Holder}
 use Rattle.slots.specs.declared.Holder.the-variants.{Level, Nobody}
 use Rattle.channel.specs.Channel.{outputTo, overflowCleared}
@@ -21,7 +22,7 @@ use Rattle.card.specs.Tick.{advanced}
 use Rattle.card.specs.Reset.{cardReset, resetOf}
 use Rattle.transfer.specs.Transfer.{writeOf}
 use Rattle.history.specs.History.{Act, Tick, Write, Read, HandIn, Reset, act, acts, wordsDone, manualAmong, triggerBy}
-use Rattle.history.specs.Effects.{isSetting, Does, Keeps, Outputs, ClearsOverflow, ClearsCount, Erases, Idles, Triggers}
+use Rattle.history.specs.Effects.{Does, Keeps, Outputs, ClearsOverflow, ClearsCount, Erases, Idles, Triggers}
 use Rattle.history.specs.Counts.{doesAt, clears, tally, triggersSince, CountsRight}
 use Rattle.history.proofs.Addresses.{count-register}
 use Rattle.history.proofs.Cards.{channel-keeps, count-many}

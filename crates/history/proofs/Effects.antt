@@ -11,10 +11,11 @@ use Rattle.map.specs.declared.Register.{Register}
 use Rattle.map.specs.declared.Register.the-variants as R
 use Rattle.map.specs.Map.{registerOf}
 use Rattle.map.specs.Register.{allowed}
+use Rattle.map.specs.Settings.{isFixed}
 use Rattle.map.proofs.Values.{accepted-is}
 use Rattle.card.specs.Card.{State}
 use Rattle.transfer.specs.declared.Effect.the-variants as E
-use Rattle.transfer.specs.Word.{fixedAt, heldAt, runningAt, effectOf, performOf}
+use Rattle.transfer.specs.Word.{heldAt, runningAt, effectOf, performOf}
 use Rattle.history.specs.Numbers.{case, first, toWrite, beyond}
 use Rattle.history.specs.Effects.{Does, Keeps, Outputs, ClearsOverflow, ClearsCount, Erases, Idles, Triggers, AllEffects}
 use Rattle.history.proofs.Addresses.{Sits, sits}
@@ -46,10 +47,10 @@ module _ (x : State) (a v : ℕ) where
 -- a word that is not refused has passed
 not-refused : (r : Found) (x : State) (a v : ℕ) → first (toWrite r x a v) ≡ 0 → Passed (x .settings) (x .card) (registerOf a) v
 not-refused r x a v e =
-    go (beyond r a) (fixedAt (registerOf a)) refl (allowed (registerOf a) v) refl (heldAt (x .settings) (registerOf a) v) refl (runningAt (x .card) (registerOf a)) refl
+    go (beyond r a) (isFixed (registerOf a)) refl (allowed (registerOf a) v) refl (heldAt (x .settings) (registerOf a) v) refl (runningAt (x .card) (registerOf a)) refl
     (rw (accepted-is a v) at e)
   where
-    go : (b f : Bool) → fixedAt (registerOf a) ≡ f → (w : Bool) → allowed (registerOf a) v ≡ w → (h : Bool) → heldAt (x .settings) (registerOf a) v ≡ h
+    go : (b f : Bool) → isFixed (registerOf a) ≡ f → (w : Bool) → allowed (registerOf a) v ≡ w → (h : Bool) → heldAt (x .settings) (registerOf a) v ≡ h
         → (k : Bool) → runningAt (x .card) (registerOf a) ≡ k
         → first (case 4 b ∷ case 5 f ∷ case 6 (not w) ∷ case 7 h ∷ case 8 k ∷ []) ≡ 0 → Passed (x .settings) (x .card) (registerOf a) v
     go false false p true q false s false t e = record { free = p; value = q; alone = s; still = t }

@@ -8,30 +8,30 @@ use Rattle.map.specs.declared.Setting.{Setting}
 use Rattle.map.specs.declared.Setting.the-variants as S
 use Rattle.map.specs.declared.Register.the-variants as R
 use Rattle.map.specs.Map.{channelRows, base, settings, point, registerOf, acceptedAt}
+use Rattle.map.specs.Settings.{isFixed}
 use Rattle.map.specs.Addresses.{tableAt, rampMapAt, scaleAt, offsetAt, modeAt}
 use Rattle.map.proofs.Rows.{found}
 use Rattle.map.proofs.Values.{free}
 use Rattle.map.proofs.Blocks.{channel-ordered, channel-accepted}
-use Rattle.transfer.specs.Word.{fixedAt}
 use Rattle.history.proofs.Addresses.{channel-row}
 
 -- a word before the first `n` of a row of settings is fixed
-fixed-in : (n : ℕ) (s : ℕ → Setting) (c o : ℕ) → o < n → fixedAt (settings n s c o) ≡ true
+fixed-in : (n : ℕ) (s : ℕ → Setting) (c o : ℕ) → o < n → isFixed (settings n s c o) ≡ true
 fixed-in n s c o h = rw (lt-ltb o n h)
 
-pub table0-fixed : (c i : ℕ) → c < 4 → i < 128 → fixedAt (registerOf (tableAt c 0 + i)) ≡ true
+pub table0-fixed : (c i : ℕ) → c < 4 → i < 128 → isFixed (registerOf (tableAt c 0 + i)) ≡ true
 unfolding channelRows
 table0-fixed c i h l =
     let e : tableAt c 0 + i ≡ base c + i = omega arith in
     rw (e, channel-row c i 0 h (omega arith) (omega arith) (omega arith) (omega arith)) (fixed-in 128 point c (i - 0) (omega arith))
 
-pub scale0-fixed : (c : ℕ) → c < 4 → fixedAt (registerOf (scaleAt c 0)) ≡ true
+pub scale0-fixed : (c : ℕ) → c < 4 → isFixed (registerOf (scaleAt c 0)) ≡ true
 unfolding channelRows
 scale0-fixed c h =
     let e : scaleAt c 0 ≡ base c + 0x860 = omega arith in
     rw (e, channel-row c 0x860 3 h (omega arith) (omega arith) (omega arith) (omega arith))
 
-pub offset0-fixed : (c : ℕ) → c < 4 → fixedAt (registerOf (offsetAt c 0)) ≡ true
+pub offset0-fixed : (c : ℕ) → c < 4 → isFixed (registerOf (offsetAt c 0)) ≡ true
 unfolding channelRows
 offset0-fixed c h =
     let e : offsetAt c 0 ≡ base c + 0x8A0 = omega arith in

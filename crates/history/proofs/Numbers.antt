@@ -14,13 +14,14 @@ use Rattle.map.specs.declared.Region.{Region}
 use Rattle.map.specs.declared.Register.{Register}
 use Rattle.map.specs.declared.Register.the-variants as R
 use Rattle.map.specs.Map.{channelRows, base, regionOf, registerOf, acceptedAt}
+use Rattle.map.specs.Settings.{isFixed}
 use Rattle.map.proofs.Rows.{found}
 use Rattle.map.proofs.Blocks.{channel-ordered, in-channel}
 use Rattle.map.proofs.Regions.{lies, same-region}
 use Rattle.card.specs.declared.Card.{Card}
 use Rattle.card.specs.Card.{State}
 use Rattle.transfer.specs.declared.Answer.{Answer}
-use Rattle.transfer.specs.Word.{fixedAt, heldAt, runningAt}
+use Rattle.transfer.specs.Word.{heldAt, runningAt}
 use Rattle.transfer.specs.Transfer.{numberOf, processedOf, badCount, writable, writeOf, readOf}
 use Rattle.history.specs.History.{doneFrom}
 use Rattle.history.specs.Numbers.{case, first, once, toWrite, writeRefusal, Given, Once, Stopped, All, Exact, WriteAnswered, ReadAnswered}
@@ -90,7 +91,7 @@ running-output k R.Unlisted a i e = absurd (true≢false (sym e))
 -- a word refused with 8 is at an output, in the region
 eighth : (q : Region) (x : State) (a v : ℕ) → first (toWrite (At q) x a v) ≡ 8 → (a ≤ q .last) × Output a
 eighth q x a v =
-    go (ltb (q .last) a) refl (fixedAt (registerOf a)) (not (acceptedAt a v)) (heldAt (x .settings) (registerOf a) v) (runningAt (x .card) (registerOf a)) refl
+    go (ltb (q .last) a) refl (isFixed (registerOf a)) (not (acceptedAt a v)) (heldAt (x .settings) (registerOf a) v) (runningAt (x .card) (registerOf a)) refl
   where
     go : (b : Bool) → ltb (q .last) a ≡ b → (f w h k : Bool) → runningAt (x .card) (registerOf a) ≡ k
         → first (case 4 b ∷ case 5 f ∷ case 6 w ∷ case 7 h ∷ case 8 k ∷ []) ≡ 8 → (a ≤ q .last) × Output a

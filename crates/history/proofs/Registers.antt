@@ -12,10 +12,11 @@ use Rattle.map.specs.declared.Setting.{Setting}
 use Rattle.map.specs.declared.Register.{Register}
 use Rattle.map.specs.declared.Register.the-variants as R
 use Rattle.map.specs.Map.{Row, Hit, hit, miss, scan, channelRows, cardRows, base, settings, namedIn, foundIn, regionOf, registerOf}
+use Rattle.map.specs.Settings.{isSetting}
 use Rattle.map.proofs.Rows.{All, scan-all}
 use Rattle.map.proofs.Order.{scan-short}
 use Rattle.map.proofs.Blocks.{raise, channel-short, in-channel, in-card, channel-register}
-use Rattle.history.specs.Effects.{isSetting, readWrite, excepted, SettingsAre}
+use Rattle.history.specs.Effects.{readWrite, excepted, SettingsAre}
 use Rattle.history.specs.Frame.{InBlock}
 
 -- a register that channel c's block may have

@@ -12,6 +12,7 @@ use borrow.Author.Tests.{ltb-true, ltb-false, lt-ltb, le-leb, lt-leb, leb-true, 
 use Rattle.map.specs.declared.Register.{Register}
 use Rattle.map.specs.declared.Register.the-variants as R
 use Rattle.map.specs.Map.{registerOf, named}
+use Rattle.map.specs.Settings.{isSetting}
 use Rattle.slots.specs.Slots.{erased}
 use Rattle.slots.proofs.Fills.{erased-else, filled-in}
 use Rattle.channel.specs.Channel.{word}
@@ -21,7 +22,7 @@ use Rattle.card.proofs.Ticks.{trigger-settings, tick-settings}
 use Rattle.transfer.specs.Word.{effectOf, readAt}
 use Rattle.transfer.specs.Transfer.{writeOf}
 use Rattle.history.specs.History.{Act, Tick, Write, Read, HandIn, Reset, act, acts, readBack, wordsDone}
-use Rattle.history.specs.Effects.{isSetting, Does, Keeps, Outputs, ClearsOverflow, ClearsCount, Erases, Idles, Triggers}
+use Rattle.history.specs.Effects.{Does, Keeps, Outputs, ClearsOverflow, ClearsCount, Erases, Idles, Triggers}
 use Rattle.history.specs.Settings.{isSlot, isScale, resetWord, wordLeft, leftAt, lastWord, SettingsKept}
 use Rattle.map.proofs.Room.{named-below}
 use Rattle.history.proofs.Addresses.{output-register, overflow-register, count-register, erase-register, manual-register}

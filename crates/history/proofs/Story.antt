@@ -14,6 +14,7 @@ use Rattle.wave.specs.Sine.{sineOf}
 use Rattle.map.specs.declared.Register.{Register}
 use Rattle.map.specs.declared.Register.the-variants as R
 use Rattle.map.specs.Map.{base, registerOf}
+use Rattle.map.specs.Settings.{isSetting}
 use Rattle.map.specs.Addresses.{enableAt}
 use Rattle.slots.specs.declared.Holder.{Holder}
 use Rattle.slots.specs.declared.Holder.the-variants.{Level, Nobody}
@@ -42,7 +43,7 @@ use Rattle.course.proofs.Acts.{untimed-table}
 use Rattle.course.proofs.Tables.{Placed, same-enter, same-next, same-sample}
 use Rattle.course.proofs.Walk.{placed-enter, placed-next}
 use Rattle.history.specs.History.{Act, Tick, Write, Read, HandIn, Reset, act, acts, wordsDone, manualAmong, triggerBy, Words16}
-use Rattle.history.specs.Effects.{isSetting, Does, Keeps, Outputs, ClearsOverflow, ClearsCount, Erases, Idles, Triggers}
+use Rattle.history.specs.Effects.{Does, Keeps, Outputs, ClearsOverflow, ClearsCount, Erases, Idles, Triggers}
 use Rattle.history.specs.Sound.{Sound, PhaseSound, RampSound}
 use Rattle.history.specs.Story.{Happening, Load, Sample, FreeSample, Output, Clear, sample, byRamp, byStart, inPhase, byTick, byTrigger, byWord, byWords, inTick, happens, story, Told, fresh, ramped, sounds, sines, tell, told, Shows, ChannelsRight, AtRest}
 use Rattle.history.proofs.Addresses.{output-register, table-register, scale-register, offset-register, segment-register, left-register, overflow-register}

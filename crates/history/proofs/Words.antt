@@ -16,6 +16,7 @@ use Rattle.map.specs.declared.Register.{Register}
 use Rattle.map.specs.declared.Register.the-variants as R
 use Rattle.map.specs.Map.{registerOf, acceptedAt}
 use Rattle.map.specs.Register.{allowed, allowedSetting}
+use Rattle.map.specs.Settings.{isFixed}
 use Rattle.map.specs.Addresses.{tableAt, scaleAt, offsetAt}
 use Rattle.map.proofs.Values.{accepted-is}
 use Rattle.slots.specs.declared.Holder.{Holder}
@@ -28,7 +29,7 @@ use Rattle.card.specs.declared.Card.{Card}
 use Rattle.card.specs.Reset.{scalesReset, settingsReset}
 use Rattle.transfer.specs.declared.Why.the-variants.{Fixed, Value, Held, Running}
 use Rattle.transfer.specs.declared.Verdict.the-variants.{Accepted, Refused}
-use Rattle.transfer.specs.Word.{fixedAt, isLevel, heldAt, runningAt, judgeOf}
+use Rattle.transfer.specs.Word.{isLevel, heldAt, runningAt, judgeOf}
 use Rattle.history.specs.Sound.{Words}
 use Rattle.history.proofs.Addresses.{slot-register}
 use Rattle.history.proofs.Registers.{Kept, plain, fixed, slot, kept}
@@ -37,16 +38,16 @@ use Rattle.history.proofs.Fixed.{table0-fixed, scale0-fixed, offset0-fi
 -- ---- what an accepted word has passed
 
 pub record Passed (s : List ℕ) (k : Card) (r : Register) (v : ℕ) : Type 0 where
-  pub free : fixedAt r ≡ false
+  pub free : isFixed r ≡ false
   pub value : allowed r v ≡ true
   pub alone : heldAt s r v ≡ false
   pub still : runningAt k r ≡ false
 
 pub passed : (s : List ℕ) (k : Card) (r : Register) (v : ℕ) → judgeOf s k r v ≡ Accepted → Passed s k r v
 unfolding judgeOf
-passed s k r v e = go (fixedAt r) refl (allowed r v) refl (heldAt s r v) refl (runningAt k r) refl e
+passed s k r v e = go (isFixed r) refl (allowed r v) refl (heldAt s r v) refl (runningAt k r) refl e
   where
-    go : (a : Bool) → fixedAt r ≡ a → (b : Bool) → allowed r v ≡ b → (c : Bool) → heldAt s r v ≡ c → (d : Bool) → runningAt k r ≡ d
+    go : (a : Bool) → isFixed r ≡ a → (b : Bool) → allowed r v ≡ b → (c : Bool) → heldAt s r v ≡ c → (d : Bool) → runningAt k r ≡ d
         → cond a (Refused Fixed) (cond (not b) (Refused Value) (cond c (Refused Held) (cond d (Refused Running) Accepted))) ≡ Accepted → Passed s k r v
     go false p true q false i false j e = record { free = p; value = q; alone = i; still = j }
     go true p b q c i d j e = let z : _≡_ {A = ℕ} 0 1 = cc in absurd (omega arith)
@@ -153,11 +154,11 @@ reset-word P s at l p q r =
 
 -- ---- the registers that a store, an erase and a reset meet
 
-clash : (r : Register) → fixedAt r ≡ true → fixedAt r ≡ false → ⊥
+clash : (r : Register) → isFixed r ≡ true → isFixed r ≡ false → ⊥
 clash r p q = true≢false (sym p ∙ q)
 
 -- no slot is fixed
-slot-free : (a : ℕ) → 0x4000 ≤ a → a < 0x4100 → fixedAt (registerOf a) ≡ false
+slot-free : (a : ℕ) → 0x4000 ≤ a → a < 0x4100 → isFixed (registerOf a) ≡ false
 slot-free a f g = rw (slot-register a f g)
 
 slot-accepts : (a : ℕ) → 0x4000 ≤ a → a < 0x4100 → acceptedAt a 0xFE ≡ true
@@ -217,7 +218,7 @@ module _ (s : List ℕ) (w : Words s) where
       go true e false f = off (λ i j. absurd (omega (arith, ltb-false a 0x4100 f)))
 
   -- a fixed word is not stored to
-  fixed-kept : (k : Card) (a v b z : ℕ) → Passed s k (registerOf a) v → fixedAt (registerOf b) ≡ true → word s b ≡ z → word (set s a v) b ≡ z
+  fixed-kept : (k : Card) (a v b z : ℕ) → Passed s k (registerOf a) v → isFixed (registerOf b) ≡ true → word s b ≡ z → word (set s a v) b ≡ z
   fixed-kept k a v b z p f e = set-word (λ y. y ≡ z) s a v b (λ d. absurd (clash (registerOf b) f (rw d (p .free)))) e
 
   pub stored : (k : Card) (a v : ℕ) → v < 65536 → Passed s k (registerOf a) v → Words (set s a v)
@@ -232,7 +233,7 @@ module _ (s : List ℕ) (w : Words s) where
         one = store-one k a v p;
       }
 
-  fixed-erased : (b z : ℕ) → fixedAt (registerOf b) ≡ true → word s b ≡ z → word (erased s) b ≡ z
+  fixed-erased : (b z : ℕ) → isFixed (registerOf b) ≡ true → word s b ≡ z → word (erased s) b ≡ z
   fixed-erased b z f e = fill-word (λ y. y ≡ z) 256 s 0x4000 0xFE b (λ i j. absurd (clash (registerOf b) f (slot-free b i j))) (λ o. e)
 
   pub erased-words : Words (erased s)

@@ -14,6 +14,7 @@ use Rattle.map.specs.declared.Found.the-variants.{At, Nothing}
 use Rattle.map.specs.declared.Region.{Region}
 use Rattle.map.specs.Map.{regionOf, registerOf}
 use Rattle.map.specs.Register.{allowed}
+use Rattle.map.specs.Settings.{isFixed}
 use Rattle.map.proofs.Values.{accepted-is}
 use Rattle.card.specs.Card.{State}
 use Rattle.transfer.specs.declared.Why.{Why}
@@ -22,7 +23,7 @@ use Rattle.transfer.specs.declared.Verdict.{Verdict}
 use Rattle.transfer.specs.declared.Verdict.the-variants as D
 use Rattle.transfer.specs.declared.Answer.{Answer}
 use Rattle.transfer.specs.declared.Answer.the-variants.{BadCount, NoRegion, NoAccess, Beyond, Refused}
-use Rattle.transfer.specs.Word.{fixedAt, heldAt, runningAt, judgeOf, effectOf, performOf, onVerdict, writeWord}
+use Rattle.transfer.specs.Word.{heldAt, runningAt, judgeOf, effectOf, performOf, onVerdict, writeWord}
 use Rattle.transfer.specs.Transfer.{Out, out, whyNumber, numberOf, processedOf, badCount, writable, goOn, writeWords, writeIn, writeOf}
 use Rattle.transfer.proofs.Loops.{good-count}
 use Rattle.history.specs.History.{wordsDone, doneFrom}
@@ -45,7 +46,7 @@ judged : (q : Region) (st : State) (a v : ℕ) → ltb (q .last) a ≡ false →
 unfolding judgeOf
 judged q st a v e =
     rw (e, accepted-is a v)
-    (go (fixedAt (registerOf a)) (allowed (registerOf a) v) (heldAt (st .settings) (registerOf a) v) (runningAt (st .card) (registerOf a)))
+    (go (isFixed (registerOf a)) (allowed (registerOf a) v) (heldAt (st .settings) (registerOf a) v) (runningAt (st .card) (registerOf a)))
   where
     go : (f w h r : Bool) → first (case 4 false ∷ case 5 f ∷ case 6 (not w) ∷ case 7 h ∷ case 8 r ∷ [])
         ≡ verdictNumber (cond f (D.Refused Fixed) (cond (not w) (D.Refused Value) (cond h (D.Refused Held) (cond r (D.Refused Running) D.Accepted))))

@@ -5,11 +5,12 @@ use mathlib.Core.List.{List, [], _∷_}
 use Prim.Native.Nat.{ℕ, _+_}
 use lib.ListN.{length}
 use Rattle.map.specs.Map.{registerOf}
+use Rattle.map.specs.Settings.{isSetting}
 use Rattle.card.specs.Card.{State}
 use Rattle.transfer.specs.Word.{effectOf, performOf}
 use Rattle.transfer.specs.Transfer.{writeOf}
 use Rattle.history.specs.History.{readBack, wordsDone}
-use Rattle.history.specs.Effects.{isSetting, Does}
+use Rattle.history.specs.Effects.{Does}
 
 -- the word v at address a makes y of x: what the address says happens, and a setting's word is there
 pub record WordDone (x : State) (a v : ℕ) (y : State) : Type 0 where

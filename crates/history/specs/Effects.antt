@@ -8,6 +8,7 @@ use Rattle.map.specs.declared.Found.the-variants.{At, Nothing}
 use Rattle.map.specs.declared.Register.{Register}
 use Rattle.map.specs.declared.Register.the-variants as R
 use Rattle.map.specs.Map.{base, regionOf, registerOf}
+use Rattle.map.specs.Settings.{isSetting}
 use Rattle.slots.specs.Slots.{erased}
 use Rattle.channel.specs.Channel.{runsOf, outputTo, overflowCleared}
 use Rattle.card.specs.Card.{State, state, channelOf, withChannel, withCount}
@@ -15,22 +16,6 @@ use Rattle.card.specs.Trigger.{triggerOf}
 use Rattle.transfer.specs.Transfer.{writable, readable}
 use Rattle.transfer.specs.Word.{effectOf, performOf}
 use Rattle.history.specs.Numbers.{first, toWrite}
-
--- the registers that hold a setting, fixed or not
-abbrev pub isSetting : Register → Bool
-isSetting (R.Setting s) = true
-isSetting (R.Fixed s) = true
-isSetting (R.Output c) = false
-isSetting (R.Status c f) = false
-isSetting (R.Overflow c) = false
-isSetting (R.Slot l) = true
-isSetting (R.Image e) = false
-isSetting R.Erase = false
-isSetting R.Manual = false
-isSetting R.ActiveLevel = false
-isSetting R.ActiveEvent = false
-isSetting (R.Count l) = false
-isSetting R.Unlisted = false
 
 -- 'Settings are the RW words except A04, A39 and the level counts.'
 abbrev pub readWrite : Found → Bool

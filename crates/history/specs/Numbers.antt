@@ -9,9 +9,10 @@ use Rattle.map.specs.declared.Access.{Access}
 use Rattle.map.specs.declared.Found.{Found}
 use Rattle.map.specs.declared.Found.the-variants.{At, Nothing}
 use Rattle.map.specs.Map.{regionOf, registerOf, acceptedAt, inRegion}
+use Rattle.map.specs.Settings.{isFixed}
 use Rattle.card.specs.Card.{State}
 use Rattle.transfer.specs.declared.Answer.{Answer}
-use Rattle.transfer.specs.Word.{fixedAt, heldAt, runningAt}
+use Rattle.transfer.specs.Word.{heldAt, runningAt}
 use Rattle.transfer.specs.Transfer.{Out, Filled, numberOf, processedOf, badCount, writable, readable}
 use Rattle.history.specs.History.{readBack, doneFrom}
 
@@ -47,7 +48,7 @@ once may r count ws = case 1 (badCount count (length ws)) ∷ case 2 (not (inReg
 abbrev pub toWrite : Found → State → ℕ → ℕ → List Case
 toWrite r st a v =
     case 4 (beyond r a)
-    ∷ case 5 (fixedAt (registerOf a))
+    ∷ case 5 (isFixed (registerOf a))
     ∷ case 6 (not (acceptedAt a v))
     ∷ case 7 (heldAt (st .settings) (registerOf a) v)
     ∷ case 8 (runningAt (st .card) (registerOf a))

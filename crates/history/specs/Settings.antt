@@ -6,9 +6,9 @@ use Prim.Native.Nat.{ℕ, _+_, _%_}
 use lib.Dec.{eqb, leb, ltb}
 use lib.ListN.{length}
 use Rattle.map.specs.Map.{registerOf}
+use Rattle.map.specs.Settings.{isSetting}
 use Rattle.card.specs.Card.{State}
 use Rattle.card.specs.Reset.{resetOf}
-use Rattle.history.specs.Effects.{isSetting}
 use Rattle.history.specs.History.{Act, Tick, Write, Read, HandIn, Reset, act, acts, readBack, wordsDone}
 
 -- 'trigger slots', 'scale factors'

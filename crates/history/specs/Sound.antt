@@ -6,6 +6,7 @@ use Prim.Native.Nat.{ℕ, _+_, _≤_, _<_}
 use lib.ListN.{length}
 use Rattle.map.specs.Register.{isMode}
 use Rattle.map.specs.Map.{registerOf, acceptedAt}
+use Rattle.map.specs.Settings.{isSetting}
 use Rattle.map.specs.Addresses.{tableAt, scaleAt, offsetAt}
 use Rattle.slots.specs.Slots.{OneLevel}
 use Rattle.channel.specs.declared.Way.{Way}
@@ -27,7 +28,6 @@ use Rattle.card.specs.Tick.{tickWith, ticks}
 use Rattle.card.specs.Reset.{resetOf}
 use Rattle.transfer.specs.Transfer.{writeOf}
 use Rattle.history.specs.History.{Act, acts, Each, Words16}
-use Rattle.history.specs.Effects.{isSetting}
 
 -- the settings, by address
 pub record Words (s : List ℕ) : Type 0 where

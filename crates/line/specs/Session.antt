@@ -32,6 +32,11 @@ unfoldable pub answersOf : List ℕ → State → List (List ℕ) → List ℕ
 answersOf w st [] = []
 answersOf w st (l ∷ ls) = (stepOf w st l .text ++ 10 ∷ []) ++ answersOf w (stepOf w st l .state) ls
 
+-- and the state that they leave
+unfoldable pub playedOf : List ℕ → State → List (List ℕ) → State
+playedOf w st [] = st
+playedOf w st (l ∷ ls) = playedOf w (stepOf w st l .state) ls
+
 -- 'from standard input on a reset card', whatever the lent words were before the reset
 unfoldable pub session : List ℕ → List ℕ → List ℕ → List ℕ → List ℕ
 session settings tables waves input = answersOf (wavesReset waves) (resetOf settings tables) (linesOf input)

@@ -1,3 +1,4 @@
 pub mod Register
 pub mod Map
+pub mod Settings
 pub mod Addresses

@@ -12,6 +12,7 @@ use Rattle.map.specs.declared.Register.{Register}
 use Rattle.map.specs.declared.Register.the-variants as R
 use Rattle.map.specs.Map.{registerOf}
 use Rattle.map.specs.Register.{allowed}
+use Rattle.map.specs.Settings.{isFixed}
 use Rattle.slots.specs.declared.Holder.{Holder}
 use Rattle.slots.specs.declared.Holder.the-variants.{Level, Nobody}
 use Rattle.slots.specs.Slots.{otherOf, imageOf, erased}
@@ -29,21 +30,7 @@ use Rattle.transfer.specs.declared.Effect.the-variants.{Keep, Output, Cl
 
 -- ---- whether a word may be written: numbers 5 to 8, in their order
 
--- 5: 'write to a fixed word, whatever the value'
-abbrev pub fixedAt : Register → Bool
-fixedAt (R.Setting s) = false
-fixedAt (R.Fixed s) = true
-fixedAt (R.Output c) = false
-fixedAt (R.Status c f) = false
-fixedAt (R.Overflow c) = false
-fixedAt (R.Slot l) = false
-fixedAt (R.Image e) = false
-fixedAt R.Erase = false
-fixedAt R.Manual = false
-fixedAt R.ActiveLevel = false
-fixedAt R.ActiveEvent = false
-fixedAt (R.Count l) = false
-fixedAt R.Unlisted = false
+-- 5, 'write to a fixed word, whatever the value', is `isFixed` of the map
 
 -- 7: 'event held by another level'; 0xFE is null and empties the slot
 abbrev pub isLevel : Holder → Bool
@@ -84,7 +71,7 @@ runningAt k R.Unlisted = false
 -- what the register allows is what the map accepts at its address (`accepted-is` of `map`)
 unfoldable pub judgeOf : List ℕ → Card → Register → ℕ → Verdict
 judgeOf s k r v =
-    cond (fixedAt r) (Refused Fixed)
+    cond (isFixed r) (Refused Fixed)
     (cond (not (allowed r v)) (Refused Value)
     (cond (heldAt s r v) (Refused Held)
     (cond (runningAt k r) (Refused Running)

@@ -12,9 +12,10 @@ ghost use mathlib.Core.Path.{_≡_};
 ghost use Prim.Native.Nat.{_≤_};
 ghost use lib.ListN.{take, length};
 ghost use Rattle.word.specs.Lent.{lent, left};
+ghost use Rattle.map.specs.Settings.{isFixed};
 ghost use Rattle.channel.specs.Channel.{outputTo, overflowCleared};
 ghost use Rattle.card.specs.Card.{before, LeavesWhole};
-ghost use Rattle.transfer.specs.Word.{Fits, Steps, fixedAt, heldAt, runningAt, judgeOf, effectOf, performOf, writeWord, statusOf, readWord};
+ghost use Rattle.transfer.specs.Word.{Fits, Steps, heldAt, runningAt, judgeOf, effectOf, performOf, writeWord, statusOf, readWord};
 ghost use Rattle.transfer.specs.Transfer.{whyNumber, numberOf, processedOf, badCount, writable, readable, Wrote, writeWords, writeOf, Reads, readWords, readOf};
 
 // Why a word is refused.
@@ -304,7 +305,7 @@ fn judge(settings: &[u16; 16960], card: Card, register: Register, value: u16) ->
 }
 
 fn is_fixed(register: Register) -> bool
-    ensures { λ b. ⌜ b ≡ fixedAt register ⌝ }
+    ensures { λ b. ⌜ b ≡ isFixed register ⌝ }
 {
     match register {
         Register::Fixed(_) => true,

@@ -1,0 +1,1 @@
+// Theorems of saved lines, fed to a reset card. There is no code here.

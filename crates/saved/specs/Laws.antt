@@ -1,0 +1,28 @@
+-- What the saved lines hold, and how long they are.
+use mathlib.Core.Path.{_≡_}
+use mathlib.Core.Bool.{Bool, false, not, _&&_, _||_}
+use mathlib.Core.List.{List, [], _∷_}
+use Prim.Native.Nat.{ℕ, _+_}
+use lib.Dec.{leb, ltb}
+use lib.ListN.{length}
+use Rattle.map.specs.Map.{registerOf}
+use Rattle.map.specs.Settings.{isSetting, isFixed}
+use Rattle.saved.specs.declared.Span.{Span}
+use Rattle.saved.specs.Saved.{frames, savedText}
+
+-- an address lies among the words of a span, and of one of several
+abbrev pub inside : Span → ℕ → Bool
+inside x a = leb (x .first) a && ltb a (x .first + x .count)
+
+abbrev pub within : List Span → ℕ → Bool
+within [] a = false
+within (x ∷ xs) a = inside x a || within xs a
+
+-- THE LIST OF SETTINGS: the frames hold every setting that isn't fixed, and nothing else
+unfoldable pub SavedAre : Type 0
+SavedAre = (a : ℕ) → within frames a ≡ isSetting (registerOf a) && not (isFixed (registerOf a))
+
+-- whatever the settings are
+pub record Size : Type 0 where
+  pub lines : length frames ≡ 173
+  pub bytes : (s : List ℕ) → length (savedText s) ≡ 38079

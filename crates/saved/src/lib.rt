@@ -1,0 +1,144 @@
+// A bench saved as lines: the settings as 01 frames of the line program, written into a lent buffer.
+ghost use mathlib.Core.Path.{_≡_};
+ghost use Prim.Native.Nat.{_+_, _^_, _≤_, _<_};
+ghost use lib.ListN.{getD};
+ghost use lib.Seq.{sets};
+ghost use Rattle.word.specs.Lent.{lent, left};
+ghost use Rattle.digits.specs.Digits.{hexAll};
+ghost use Rattle.saved.specs.Saved.{span, spans, pieces, cut, wordsAt, lineText, textOf, Lays, saveOf, Saves, savedNumber, bytesOf};
+
+// The answer to a save: the lines were written, so many bytes of them; or the buffer is too short for them.
+pub enum Saved {
+    Lines(usize),
+    TooShort,
+}
+
+// Words one after the other: the first address, and how many.
+pub struct Span {
+    pub first: usize,
+    pub count: usize,
+}
+
+// The settings as lines, at the front of the buffer; one that is too short stays as it is.
+pub fn save(settings: &[u16; 16960], out: &mut [u8]) -> Saved
+    ensures { λ r. ⌜ Saves (saveOf (lent settings) (lent out)) r out ⌝ }
+{
+    if out.len() < 38079 {
+        return Saved::TooShort;
+    }
+    let mut at: usize = 0;
+    let mut k: usize = 0;
+    while k < 54 {
+        at = put_span(settings, span_at(k), out, at);
+        k = k + 1;
+    }
+    Saved::Lines(at)
+}
+
+// The number of an answer.
+pub fn number(saved: Saved) -> u16
+    ensures { λ r. ⌜ r ≡ savedNumber saved ⌝ }
+{
+    match saved {
+        Saved::Lines(_) => 0,
+        Saved::TooShort => 10,
+    }
+}
+
+// How many bytes were written.
+pub fn written(saved: Saved) -> usize
+    ensures { λ r. ⌜ r ≡ bytesOf saved ⌝ }
+{
+    match saved {
+        Saved::Lines(n) => n,
+        Saved::TooShort => 0,
+    }
+}
+
+// Span k of the 54: thirteen of each channel from its base, then the card's two.
+fn span_at(k: usize) -> Span
+    requires { ⌜ k < 54 ⌝ }
+    ensures { λ r. ⌜ r ≡ getD spans k (span 0 0) ⌝ }
+    ensures { λ r. ⌜ (r .first < 65536) × (r .count ≤ 1920) ⌝ }
+{
+    let rows = ROWS;
+    if k < 52 {
+        let r = rows[k % 13];
+        Span {
+            first: k / 13 * 0x1000 + (r.0 as usize),
+            count: r.1 as usize,
+        }
+    } else {
+        let r = rows[k - 39];
+        Span {
+            first: r.0 as usize,
+            count: r.1 as usize,
+        }
+    }
+}
+
+// The frames of a span from place `at` on, 64 words each but the last; and where they end.
+fn put_span(settings: &[u16; 16960], x: Span, out: &mut [u8], at: usize) -> usize
+    requires { ⌜ (at < 2 ^ 32) × (x .first < 65536) × (x .count ≤ 1920) ⌝ }
+    ensures { λ r. ⌜ Lays (textOf (lent settings) (cut x 0 (pieces x))) at out r ⌝ }
+    ensures { λ r. ⌜ r ≤ at + 7890 ⌝ }
+{
+    let first = x.first;
+    let count = x.count;
+    let many = (count + 63) / 64;
+    let mut end = at;
+    let mut j: usize = 0;
+    while j < many {
+        let n = word::least(64, count - 64 * j);
+        end = put_frame(settings, first + 64 * j, n, out, end);
+        j = j + 1;
+    }
+    end
+}
+
+// A frame of n words and its LF, from place `at` on; and where it ends.
+fn put_frame(settings: &[u16; 16960], first: usize, n: usize, out: &mut [u8], at: usize) -> usize
+    requires { ⌜ (at < 2 ^ 33) × (first < 131072) × (n ≤ 64) ⌝ }
+    ensures { λ r. ⌜ Lays (lineText (lent settings) (span first n)) at out r ⌝ }
+{
+    digits::put2(out, at, 1);
+    digits::put4(out, at + 2, first);
+    put_words(settings, first, n, out, at + 6);
+    let end = at + 6 + 4 * n;
+    digits::put(out, end, 10);
+    end + 1
+}
+
+// n words of the settings from an address on, four digits each, from place `at` on.
+fn put_words(settings: &[u16], first: usize, n: usize, out: &mut [u8], at: usize)
+    requires { ⌜ (at < 2 ^ 34) × (first < 131072) × (n ≤ 64) ⌝ }
+    ensures { λ _. ⌜ left out ≡ sets (lent out) at (hexAll (wordsAt (lent settings) first n)) ⌝ }
+{
+    let mut i: usize = 0;
+    while i < n {
+        digits::put4(out, at + 4 * i, word::get(settings, first + i) as usize);
+        i = i + 1;
+    }
+}
+
+// First address, words.
+struct Row(u16, u16);
+
+// The spans of a channel, counted from its base, and the card's own.
+const ROWS: [Row; 15] = [
+    Row(0x080, 1920),
+    Row(0x800, 32),
+    Row(0x840, 32),
+    Row(0x861, 31),
+    Row(0x880, 32),
+    Row(0x8A1, 31),
+    Row(0x8E0, 32),
+    Row(0x900, 32),
+    Row(0x920, 32),
+    Row(0x940, 32),
+    Row(0x960, 32),
+    Row(0xA00, 1),
+    Row(0xA01, 1),
+    Row(0x4000, 256),
+    Row(0x4200, 1),
+];
