@@ -97,12 +97,12 @@ unfolding hexAll
 length-hexAll [] = refl
 length-hexAll (w ∷ a) = length-append (hex4 w) (hexAll a) ∙ omega (arith, length-hex4 w, length-hexAll a)
 
-hexAll-append : (a b : List ℕ) → hexAll (a ++ b) ≡ hexAll a ++ hexAll b
+pub hexAll-append : (a b : List ℕ) → hexAll (a ++ b) ≡ hexAll a ++ hexAll b
 unfolding hexAll
 hexAll-append [] b = refl
 hexAll-append (w ∷ a) b = ap (λ (l : List ℕ). hex4 w ++ l) (hexAll-append a b) ∙ sym (append-assoc (hex4 w) (hexAll a) (hexAll b))
 
-hexAll-one : (w : ℕ) → hexAll (w ∷ []) ≡ hex4 w
+pub hexAll-one : (w : ℕ) → hexAll (w ∷ []) ≡ hex4 w
 unfolding hexAll
 hexAll-one w = append-nil (hex4 w)
 
