@@ -4,12 +4,17 @@ use std::io::{self, Write};
 
 use crate::card::Card;
 use crate::line::{self, field, fields, put_transfer};
+use crate::map::Number;
 use crate::panel::{self, Plotted, Reading};
+use crate::saved;
 
 /// The longest slice that a frame lends to a transfer.
 pub const MAX_SLICE: usize = 0x1000;
 /// The digits of the longest frame: a write from a slice of 4096 words.
 pub const LONGEST: usize = 2 + 4 + 4 + 4 * MAX_SLICE;
+/// The longest buffer that a frame lends to a save, and its bytes before.
+pub const MAX_BUFFER: usize = 0x1_0000;
+const BUFFER_FILL: u8 = 0x55;
 /// The most words of a wave table's frame that a line has room for.
 const MAX_WAVE: usize = (LONGEST - 4) / 4;
 
@@ -33,6 +38,10 @@ pub enum Frame {
         count: usize,
         slice: Vec<u16>,
     },
+    /// A save into this buffer.
+    Save {
+        buffer: Vec<u8>,
+    },
     Reset,
     Plot {
         channel: usize,
@@ -54,6 +63,7 @@ impl Frame {
             0x10 => Frame::parse_wave(rest),
             0x11 => Frame::parse_write(fields(rest, 4, &mut [0; 2 + MAX_SLICE])?),
             0x12 => Frame::parse_read(fields(rest, 4, &mut [0; 4])?),
+            0x15 => Frame::parse_save(fields(rest, 4, &mut [0; 2])?),
             0x18 => rest.is_empty().then_some(Frame::Reset),
             0x1B => Frame::parse_plot(fields(rest, 2, &mut [0; 3])?),
             0x1C => Frame::parse_panel(fields(rest, 4, &mut [0; 2])?),
@@ -92,6 +102,17 @@ impl Frame {
             start,
             count: usize::from(count),
             slice: vec![fill; length],
+        })
+    }
+
+    /// The buffer's length, in the two halves of its eight digits.
+    fn parse_save(fields: &[u16]) -> Option<Frame> {
+        let &[high, low] = fields else {
+            return None;
+        };
+        let length = usize::from(high) << 16 | usize::from(low);
+        (length <= MAX_BUFFER).then(|| Frame::Save {
+            buffer: vec![BUFFER_FILL; length],
         })
     }
 
@@ -134,6 +155,10 @@ impl Frame {
                 let done = card.read(start, count, &mut slice);
                 put_transfer(out, 0x92, done, &slice)
             }
+            Frame::Save { mut buffer } => {
+                let saved = saved::save(card, &mut buffer);
+                put_saved(out, saved, &buffer)
+            }
             Frame::Reset => {
                 *card = Card::reset();
                 out.write_all(b"98\n")
@@ -146,6 +171,34 @@ impl Frame {
             Frame::Panel { address, word } => put_reading(out, address, word),
         }
     }
+}
+
+/// The answer to a save: number, bytes written and the whole buffer's sum.
+fn put_saved(out: &mut impl Write, saved: Result<usize, Number>, buffer: &[u8]) -> io::Result<()> {
+    let (number, written) = match saved {
+        Ok(written) => (Number::Done, written),
+        Err(number) => (number, 0),
+    };
+    let (number, sum) = (number as u8, adler32(buffer));
+    writeln!(out, "95{number:02X}{written:08X}{sum:08X}")
+}
+
+/// The Adler-32 check sum: one plus all bytes, and the sum of these sums on
+/// the way, each modulo 65,521.
+fn adler32(bytes: &[u8]) -> u32 {
+    const MODULUS: u32 = 65_521;
+    // So many bytes can be added before a sum leaves 32 bits.
+    const TOGETHER: usize = 5552;
+    let (mut low, mut high) = (1, 0);
+    for chunk in bytes.chunks(TOGETHER) {
+        for &byte in chunk {
+            low += u32::from(byte);
+            high += low;
+        }
+        low %= MODULUS;
+        high %= MODULUS;
+    }
+    high << 16 | low
 }
 
 /// The answer to a plotted point, as whole numbers; both fields are exact.
@@ -385,12 +438,62 @@ mod tests {
     }
 
     #[test]
+    fn check_sums() {
+        assert_eq!(adler32(b""), 1);
+        assert_eq!(adler32(b"a"), 0x0062_0062);
+        assert_eq!(adler32(b"Wikipedia"), 0x11E6_0398);
+        // The bytes one by one, each sum cut at once.
+        for length in [5551, 5552, 5553, 65_536] {
+            let bytes = vec![0xFF; length];
+            let (mut low, mut high) = (1_u64, 0_u64);
+            for &byte in &bytes {
+                low = (low + u64::from(byte)) % 65_521;
+                high = (high + low) % 65_521;
+            }
+            assert_eq!(u64::from(adler32(&bytes)), high << 16 | low, "{length}");
+        }
+    }
+
+    /// The check sum of a buffer that begins with these bytes.
+    fn sum(lines: &[u8], length: usize) -> u32 {
+        let mut buffer = vec![BUFFER_FILL; length];
+        buffer[..lines.len()].copy_from_slice(lines);
+        adler32(&buffer)
+    }
+
+    #[test]
+    fn saves_by_the_buffers_length() {
+        assert_eq!(answers("1500000000"), "950A0000000000000001\n");
+        assert_eq!(answers("1500000001"), "950A0000000000560056\n");
+        let short = sum(b"", 38_078);
+        assert_eq!(answers("15000094BE"), format!("950A00000000{short:08X}\n"));
+        let mut lines = vec![0; 38_079];
+        saved::save(&Card::reset(), &mut lines).unwrap();
+        for length in [38_079, 38_080, 65_536] {
+            let answer = format!("9500000094BF{:08X}\n", sum(&lines, length));
+            assert_eq!(answers(&format!("15{length:08X}")), answer, "{length}");
+        }
+    }
+
+    #[test]
+    fn a_save_shows_what_was_written_and_changes_nothing() {
+        let look = "15000094BF\n";
+        let again = answers(&format!("0108E10032\n{look}0208E10001\n{look}18\n{look}"));
+        let given: Vec<&str> = again.lines().collect();
+        assert_eq!((given[0], given[2]), ("81000001", "820000010032"));
+        assert_eq!(given[1], given[3]);
+        assert_ne!(given[1], given[5]);
+        assert_eq!(answers(look), format!("{}\n", given[5]));
+    }
+
+    #[test]
     fn damaged_lines_answer_ff() {
         let damaged = "10 100 10000 100000 1000000 10000G 100G 100g 10000000001 11 12 13 14 15 16 17 19 1A 1B 1C 1D 1E 1F 180 1800 110080 1100800 \
             11008000010 110080000100070 1100800001000G 1208600001000155A 1208600001000155AA0 \
             1208600001000155aa 12086000010001 1B0000 1B00000 1B0000000 1B000000000 1b000000 \
             1C080000 1C0800000 1C080000000 1C0800000000 1c08000000 1C08000G00 91 98 9B00 14000A 1400000001 \
-            1500010000 1700 1701 1900 1A00 90 9000";
+            1500 150000 15000094 150000094 15000094B 15000094BF0 15000094BF0000 1500010001 15FFFFFFFF \
+            15000094bf 15000094BG 95 1700 1701 1900 1A00 90 9000";
         for line in damaged.split_whitespace() {
             assert_eq!(answers(line), "FF\n", "{line}");
         }

@@ -179,6 +179,21 @@ impl Card {
         }
     }
 
+    /// Copies settings of a channel's or of the card's row, from its word
+    /// `index` on, into all of the slice.
+    pub fn copy_settings(&self, channel: usize, region: Region, index: usize, slice: &mut [u16]) {
+        let words = index..index + slice.len();
+        match region {
+            Region::TriggerMap => {
+                for (word, &event) in slice.iter_mut().zip(&self.slots[words]) {
+                    *word = u16::from(event);
+                }
+            }
+            Region::ClockEnable => slice.fill(self.clock_enable),
+            region => slice.copy_from_slice(&self.channels[channel].settings(region)[words]),
+        }
+    }
+
     /// 0x0080 + level if the event is not null and some slot holds it, else 0.
     fn image(&self, event: u8) -> u16 {
         self.level_of(event)

@@ -1,5 +1,7 @@
 //! One channel: countdown, load, start, samples and free run.
 
+use std::slice;
+
 use crate::map::Region;
 use crate::sine::{in_range, signed, Mode, Sine, Wave};
 
@@ -395,22 +397,29 @@ impl Channel {
         self.given = Some(given);
     }
 
+    /// The words of a row that holds settings.
+    pub fn settings(&self, region: Region) -> &[u16] {
+        match region {
+            Region::Tables => &self.tables,
+            Region::RampMap => &self.ramp_map,
+            Region::ScaleMap => &self.scale_map,
+            Region::Scales => &self.scales,
+            Region::OffsetMap => &self.offset_map,
+            Region::Offsets => &self.offsets,
+            Region::Delays => &self.delays,
+            Region::FrequencyMap => &self.frequency_map,
+            Region::Frequencies => &self.frequencies,
+            Region::PhaseMap => &self.phase_map,
+            Region::Phases => &self.phases,
+            Region::Enable => slice::from_ref(&self.enable),
+            Region::Mode => slice::from_ref(&self.mode.0),
+            _ => unreachable!("the other rows hold no settings, or are the card's"),
+        }
+    }
+
     /// A word of the channel's rows.
     pub fn read_word(&self, region: Region, index: usize) -> u16 {
         match region {
-            Region::Tables => self.tables[index],
-            Region::RampMap => self.ramp_map[index],
-            Region::ScaleMap => self.scale_map[index],
-            Region::Scales => self.scales[index],
-            Region::OffsetMap => self.offset_map[index],
-            Region::Offsets => self.offsets[index],
-            Region::Delays => self.delays[index],
-            Region::FrequencyMap => self.frequency_map[index],
-            Region::Frequencies => self.frequencies[index],
-            Region::PhaseMap => self.phase_map[index],
-            Region::Phases => self.phases[index],
-            Region::Enable => self.enable,
-            Region::Mode => self.mode.0,
             Region::Output => self.output,
             Region::LoadedTable => self.loaded.table,
             Region::LoadedScale => self.loaded.scale,
@@ -418,7 +427,7 @@ impl Channel {
             Region::Segment => self.segment,
             Region::SamplesLeft => self.samples_left,
             Region::Overflows => self.overflows,
-            _ => unreachable!("the other rows are the card's"),
+            _ => self.settings(region)[index],
         }
     }
 

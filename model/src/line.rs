@@ -6,7 +6,7 @@ use crate::card::Card;
 use crate::map::Answer;
 
 /// The most words a write frame carries and a read frame asks for.
-const MAX_WORDS: usize = 64;
+pub const MAX_WORDS: usize = 64;
 /// The digits of the longest frame: a write of 64 words.
 pub const LONGEST: usize = 2 + 4 + 4 * MAX_WORDS;
 
@@ -42,6 +42,12 @@ pub fn fields<'a>(digits: &[u8], width: usize, room: &'a mut [u16]) -> Option<&'
         *value = field(digits)?;
     }
     Some(room)
+}
+
+/// The four digits of a word.
+pub fn digits(word: u16) -> [u8; 4] {
+    let digit = |shift: u16| b"0123456789ABCDEF"[usize::from(word >> shift & 0xF)];
+    [digit(12), digit(8), digit(4), digit(0)]
 }
 
 impl Frame {

@@ -8,6 +8,7 @@ mod map;
 mod panel;
 mod program;
 mod reach;
+mod saved;
 mod sessions;
 mod sine;
 

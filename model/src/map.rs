@@ -6,7 +6,7 @@ use crate::sine::Mode;
 /// The largest count a transfer may name.
 const MAX_COUNT: usize = 16_381;
 
-/// The number that a transfer or a wave table is answered with.
+/// The number that a transfer, a wave table or a save is answered with.
 #[derive(Clone, Copy, Debug, PartialEq, Eq)]
 #[repr(u8)]
 pub enum Number {
@@ -31,6 +31,8 @@ pub enum Number {
     /// A wave table for a channel above 3, of a wrong length or with a word
     /// out of range.
     BadWave = 9,
+    /// A buffer shorter than the saved lines need.
+    ShortBuffer = 10,
 }
 
 /// A number and the words processed, counted only when really done.
@@ -106,18 +108,29 @@ impl Region {
         }
     }
 
-    /// Table 0 and entry 0 of the scale factors and of the offsets are fixed.
-    pub fn is_fixed(self, index: usize) -> bool {
+    /// The fixed words, which come first: table 0, and entry 0 of the scale
+    /// factors and of the offsets.
+    pub fn fixed_words(self) -> usize {
         match self {
-            Region::Tables => index < TABLE_WORDS,
-            Region::Scales | Region::Offsets => index == 0,
-            _ => false,
+            Region::Tables => TABLE_WORDS,
+            Region::Scales | Region::Offsets => 1,
+            _ => 0,
         }
+    }
+
+    pub fn is_fixed(self, index: usize) -> bool {
+        index < self.fixed_words()
     }
 }
 
 /// First address, last address, access and region.
 pub type Row = (u16, u16, Access, Region);
+
+/// "Settings are the RW words except A04, A39 and the level counts."
+pub fn holds_settings(&(_, _, access, region): &Row) -> bool {
+    let counted = matches!(region, Region::Overflows | Region::LevelCounts);
+    access == Access::Both && region != Region::Output && !counted
+}
 
 /// The rows of one channel, from its base.
 pub const CHANNEL_ROWS: [Row; 20] = [

@@ -10,6 +10,7 @@ use crate::card::{Card, CHANNELS, NULL_EVENT};
 use crate::channel::{Look, Trigger, LOAD_AT};
 use crate::line;
 use crate::program::Program;
+use crate::saved;
 use sine::{Origin, Written};
 
 const NO_FRAME: &str = "lines that are no frame";
@@ -34,6 +35,13 @@ const SHOWN_AND_PENDING: &str =
     "ticks whose load by counting shows a pending trigger and whose event leaves another pending";
 const LEVEL_READS: &str = "reads of 0x4210 while a trigger of another level is pending";
 const EVENT_READS: &str = "reads of 0x4211 while a trigger of another event is pending";
+const SAVED: &str = "saves answered 0";
+const SAVED_EXACT: &str = "saves answered 0 into a buffer as long as the lines";
+const SAVED_LONGER: &str = "saves answered 0 into a longer buffer";
+const SAVED_OTHER: &str = "saves answered 0 of another bench than a reset one";
+const NOT_SAVED: &str = "saves answered 10";
+const NOT_SAVED_BY_ONE: &str = "saves answered 10 into a buffer one byte too short";
+const NO_SAVE: &str = "lines that begin with 15 and are no frame";
 const COUNT_READS: &str = "reads of a level's count while a trigger of that level is pending";
 
 /// What sessions of both programs reach with ticks and triggers.
@@ -55,6 +63,21 @@ const OF_BOTH: [&str; 15] = [
     COUNT_READS,
 ];
 
+/// What only sessions of the bench program reach, beside their sines.
+const OF_BENCH: [&str; 11] = [
+    SHOWN,
+    NOT_SHOWN,
+    RESETS,
+    RESETS_PENDING,
+    SAVED,
+    SAVED_EXACT,
+    SAVED_LONGER,
+    SAVED_OTHER,
+    NOT_SAVED,
+    NOT_SAVED_BY_ONE,
+    NO_SAVE,
+];
+
 /// The kinds of panel readings, by their number in the answer.
 const READINGS: [&str; 6] = [
     "nothing",
@@ -71,7 +94,7 @@ const LONG: u32 = 10;
 /// The things that a program's sessions can reach, in the order of printing.
 fn things(program: Program) -> Vec<String> {
     let bench = program == Program::Bench;
-    let more: &[u8] = &[0x10, 0x11, 0x12, 0x18, 0x1B, 0x1C];
+    let more: &[u8] = &[0x10, 0x11, 0x12, 0x15, 0x18, 0x1B, 0x1C];
     let mut things: Vec<String> = [0x01, 0x02, 0x03, 0x04]
         .iter()
         .chain(if bench { more } else { &[] })
@@ -82,7 +105,7 @@ fn things(program: Program) -> Vec<String> {
     things.extend((0..=4).map(|number| number_name("reads", number)));
     if bench {
         things.extend(READINGS.map(reading_name));
-        things.extend([SHOWN, NOT_SHOWN, RESETS, RESETS_PENDING].map(String::from));
+        things.extend(OF_BENCH.map(String::from));
     }
     things.extend(OF_BOTH.map(String::from));
     things.extend(sine::OF_BOTH.map(String::from));
@@ -285,6 +308,7 @@ impl<'a> Player<'a> {
             .answer(&mut self.card, line, &mut answer)
             .expect("a vector takes every answer");
         let Some(frame) = frame else {
+            self.count(NO_SAVE, self.is_bench() && line.starts_with(b"15"));
             return self.reach.add(NO_FRAME, 1);
         };
         let byte = |index: usize| line::field(&answer[2 * index..2 * index + 2]).unwrap() as u8;
@@ -304,6 +328,11 @@ impl<'a> Player<'a> {
             0x10 => {
                 if let Frame::Wave { channel, words } = &frame {
                     self.wave_table(&looks, *channel, words, byte(1));
+                }
+            }
+            0x15 => {
+                if let Frame::Save { buffer } = &frame {
+                    self.saved(byte(1), buffer.len());
                 }
             }
             0x18 => self.was_reset(looks),
@@ -353,6 +382,19 @@ impl<'a> Player<'a> {
         }
     }
 
+    /// A save into a buffer of this length was answered with the number.
+    fn saved(&mut self, number: u8, length: usize) {
+        let lines = saved::length();
+        let done = number == 0;
+        let other = done && saved_lines(&self.card) != saved_lines(&Card::reset());
+        self.count(SAVED, done);
+        self.count(SAVED_EXACT, done && length == lines);
+        self.count(SAVED_LONGER, done && length > lines);
+        self.count(SAVED_OTHER, other);
+        self.count(NOT_SAVED, number == 10);
+        self.count(NOT_SAVED_BY_ONE, number == 10 && length + 1 == lines);
+    }
+
     /// The card was reset; the looks are those just before.
     fn was_reset(&mut self, looks: [Look; CHANNELS]) {
         let runs = looks.iter().any(|look| look.ramp_runs);
@@ -370,6 +412,13 @@ fn loads_next(look: &Look) -> bool {
 /// Whether no channel has loaded since the last trigger.
 fn is_pending(looks: [Look; CHANNELS]) -> bool {
     looks.iter().all(|look| look.countdown > LOAD_AT)
+}
+
+/// The saved lines of a card.
+fn saved_lines(card: &Card) -> Vec<u8> {
+    let mut lines = vec![0; saved::length()];
+    saved::save(card, &mut lines).expect("the lines have their room");
+    lines
 }
 
 /// The start of a read.
@@ -430,6 +479,27 @@ mod tests {
         assert_eq!(count(looks, "panel readings: nothing"), 1);
         assert_eq!(count(&format!("{RUNNING}18\n18\n"), RESETS), 1);
         assert_eq!(count(&format!("{RUNNING}18\n18\n"), "frames 18"), 2);
+    }
+
+    #[test]
+    fn saves() {
+        let session = "15000094BE\n15000094BF\n15000094C0\n1500000000\n1500010001\n15\n16\n";
+        for (before, other) in [("", 0), ("0108200001\n010A040001\n", 0), (RUNNING, 2)] {
+            let session = format!("{before}{session}");
+            for (thing, times) in [
+                ("frames 15", 4),
+                (SAVED, 2),
+                (SAVED_EXACT, 1),
+                (SAVED_LONGER, 1),
+                (SAVED_OTHER, other),
+                (NOT_SAVED, 2),
+                (NOT_SAVED_BY_ONE, 1),
+                (NO_SAVE, 2),
+                (NO_FRAME, 3),
+            ] {
+                assert_eq!(count(&session, thing), times, "{thing}");
+            }
+        }
     }
 
     #[test]

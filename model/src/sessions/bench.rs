@@ -1,13 +1,14 @@
 //! What sessions of the bench program have beside the line program's steps.
 
 use super::{digits, Session, Step, EDGES, REGIONS, UNLISTED};
-use crate::bench::{LONGEST, MAX_SLICE};
+use crate::bench::{LONGEST, MAX_BUFFER, MAX_SLICE};
+use crate::saved;
 
 /// The longest slice of a frame.
 const SLICE: u16 = MAX_SLICE as u16;
 
 /// The kinds of steps a session of the bench program is made of.
-pub(super) const STEPS: [Step; 18] = [
+pub(super) const STEPS: [Step; 19] = [
     (100, Session::line_step),
     (3, Session::write_tables),
     (3, Session::write_region),
@@ -20,6 +21,7 @@ pub(super) const STEPS: [Step; 18] = [
     (3, Session::wait_for_the_first_load),
     (5, Session::sine_moment),
     (3, Session::wave_table),
+    (8, Session::save),
     (5, Session::plot_a_new_table),
     (6, Session::plot_anywhere),
     (8, Session::show_a_region),
@@ -206,6 +208,36 @@ impl Session {
     }
 }
 
+/// Saves.
+impl Session {
+    /// A save into a buffer as long as the lines, one byte off, or of another
+    /// length; now and then none that a frame may lend.
+    fn save(&mut self) {
+        let lines = saved::length();
+        let any = usize::from(self.random.word());
+        let lengths = [
+            0,
+            1,
+            lines - 1,
+            lines - 1,
+            lines,
+            lines,
+            lines + 1,
+            MAX_BUFFER,
+            any,
+        ];
+        let length = self.random.pick(&lengths);
+        let line = match self.random.below(20) {
+            0 => format!("15{:08X}", MAX_BUFFER + 1),
+            1 => "15FFFFFFFF".to_string(),
+            2 => format!("15{length:07X}"),
+            3 => format!("15{length:09X}"),
+            _ => format!("15{length:08X}"),
+        };
+        self.line(line.as_bytes());
+    }
+}
+
 /// Resets, plotted points and panel readings.
 impl Session {
     /// A ramp of some samples on one channel, often a second trigger, a reset
@@ -326,6 +358,7 @@ impl Session {
             "120A3100010001AAAA".to_string(),
             "1000".to_string(),
             "1003400040004000".to_string(),
+            "15000094BF".to_string(),
             format!("1B00{table:02X}00"),
             "1C0A04FFFF".to_string(),
         ];
@@ -343,7 +376,7 @@ impl Session {
             "13",
             "13000A",
             "1400000001",
-            "1500010000",
+            "1500010001",
             "16",
             "1701",
             "1702",
