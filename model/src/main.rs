@@ -1,4 +1,4 @@
-//! A model of the four-channel ramp card behind its two programs.
+//! A model of the four-channel ramp card behind its three programs.
 
 mod bench;
 mod card;
@@ -8,6 +8,7 @@ mod map;
 mod panel;
 mod program;
 mod reach;
+mod refused;
 mod saved;
 mod sessions;
 mod sine;
@@ -19,12 +20,14 @@ use std::os::fd::AsFd;
 use std::path::Path;
 use std::process::ExitCode;
 
+use card::Card;
 use program::{Lines, Program};
 use reach::Reach;
+use refused::Refused;
 
 /// What the program can be asked for.
-const USAGE: &str = "no argument, or: bench, or: sessions rampcard|bench SEED COUNT DIR, \
-    or: reach rampcard|bench FILE...";
+const USAGE: &str = "no argument, or: bench, or: save, \
+    or: sessions rampcard|bench SEED COUNT DIR, or: reach rampcard|bench FILE...";
 /// The input is read in pieces of this many bytes.
 const PIECE: usize = 64 * 1024;
 
@@ -50,6 +53,7 @@ fn run(arguments: &[&str]) -> Result<(), String> {
             write_sessions(named(program)?, seed, count, directory)
         }
         ["reach", program, files @ ..] => print_reach(named(program)?, files),
+        ["save"] => save_input().map_err(said),
         [program] => dialogue(named(program)?).map_err(said),
         _ => Err(USAGE.to_string()),
     }
@@ -65,15 +69,35 @@ fn said(error: io::Error) -> String {
 
 /// Standard input to standard output on a reset card.
 fn dialogue(program: Program) -> io::Result<()> {
-    // Plain files, so that every failed read or write is seen as one.
-    let input = File::from(io::stdin().as_fd().try_clone_to_owned()?);
-    let output = File::from(io::stdout().as_fd().try_clone_to_owned()?);
-    serve(program, input, BufWriter::with_capacity(PIECE, output))
+    let [input, output] = [plain(io::stdin())?, plain(io::stdout())?];
+    serve(program, input, BufWriter::with_capacity(PIECE, output))?;
+    Ok(())
 }
 
-/// Answers the whole input; the answers of all complete lines received are
-/// written before it waits for more.
-fn serve(program: Program, mut input: impl Read, mut output: impl Write) -> io::Result<()> {
+/// Standard input on a reset card; its settings go to standard output, what
+/// was refused to standard error.
+fn save_input() -> io::Result<()> {
+    let [input, output] = [plain(io::stdin())?, plain(io::stdout())?];
+    save(input, output, BufWriter::new(plain(io::stderr())?))
+}
+
+/// A plain file, so that every failed read or write is seen as one.
+fn plain(stream: impl AsFd) -> io::Result<File> {
+    Ok(File::from(stream.as_fd().try_clone_to_owned()?))
+}
+
+/// Plays the lines of the whole input, then writes the saved lines.
+fn save(input: impl Read, mut output: impl Write, told: impl Write) -> io::Result<()> {
+    let mut refused = Refused::new(told);
+    let card = serve(Program::Rampcard, input, &mut refused)?;
+    refused.finish()?;
+    output.write_all(&saved::lines(&card))?;
+    output.flush()
+}
+
+/// Answers the whole input, and gives the card at its end; the answers of all
+/// complete lines received are written before it waits for more.
+fn serve(program: Program, mut input: impl Read, mut output: impl Write) -> io::Result<Card> {
     let mut lines = Lines::new(program);
     let mut piece = vec![0; PIECE];
     loop {
@@ -85,8 +109,9 @@ fn serve(program: Program, mut input: impl Read, mut output: impl Write) -> io::
         }
         output.flush()?;
     }
-    lines.finish(&mut output)?;
-    output.flush()
+    let card = lines.finish(&mut output)?;
+    output.flush()?;
+    Ok(card)
 }
 
 /// Writes the random sessions of a seed, one a file.
@@ -162,6 +187,64 @@ mod tests {
         let mut out = Vec::new();
         assert!(serve(Program::Bench, Script(VecDeque::from(script)), &mut out).is_err());
         assert_eq!(out, b"FF\n");
+    }
+
+    /// What is saved of an input and what is told of it.
+    fn saved_of(input: &[u8]) -> (String, String) {
+        let (mut out, mut told) = (Vec::new(), Vec::new());
+        save(input, &mut out, &mut told).unwrap();
+        let [out, told] = [out, told].map(|bytes| String::from_utf8(bytes).unwrap());
+        (out, told)
+    }
+
+    #[test]
+    fn an_input_is_played_and_saved() {
+        let (reset, told) = saved_of(b"");
+        assert_eq!((reset.len(), reset.lines().count()), (38_079, 173));
+        assert_eq!(told, "");
+        let (out, told) = saved_of(b"010A000001\n0142020001\n03000A\n0400\n020A330001");
+        assert_eq!(told, "");
+        assert_eq!(out, reset.replace("010A000000", "010A000001"));
+        assert_eq!(saved_of(out.as_bytes()), (out, String::new()));
+    }
+
+    #[test]
+    fn the_input_goes_on_after_a_refused_line() {
+        let long = "0".repeat(100_000);
+        let input = format!("\n{long}\n0108000001000F00100002\n010A010002\n020A330002\n0142000001");
+        let (out, told) = saved_of(input.as_bytes());
+        let lines: Vec<&str> = told.lines().collect();
+        assert_eq!(
+            lines[..2],
+            ["save: line 1 is answered FF", "save: line 2 is answered FF"]
+        );
+        assert_eq!(lines[2], "save: line 3 is answered 81060002");
+        assert_eq!(lines[3], "save: line 4 is answered 81060000");
+        assert_eq!(lines[4], "save: line 5 is answered 820400010000");
+        let all = "save: 5 of 6 lines refused; all others were played and are saved; \
+            the guide has the numbers";
+        assert_eq!(lines[5..], [all]);
+        // The words before the refused one are done.
+        assert!(out.contains("\n0108000001000F00000000"));
+        assert!(out.ends_with("\n0142000001\n"));
+    }
+
+    #[test]
+    fn one_refused_line() {
+        let (_, told) = saved_of(b"030001\n18\n030001\n");
+        let all = "save: line 2 is answered FF\nsave: 1 of 3 lines refused; \
+            all others were played and are saved; the guide has the numbers\n";
+        assert_eq!(told, all);
+    }
+
+    #[test]
+    fn nothing_is_saved_after_a_failed_read() {
+        let script = [Ok(&b"0300"[..]), Err(ErrorKind::Other.into())];
+        let mut out = Vec::new();
+        assert!(save(Script(VecDeque::from(script)), &mut out, Full).is_err());
+        assert!(save(&b"\n"[..], &mut out, Full).is_err());
+        assert_eq!(out, b"");
+        assert!(save(&b""[..], Full, Full).is_err());
     }
 
     #[test]

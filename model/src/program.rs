@@ -1,4 +1,4 @@
-//! The two programs, and the stream of lines that each of them answers.
+//! The two programs that answer, and the stream of lines of each of them.
 
 use std::io::{self, Write};
 
@@ -84,12 +84,12 @@ impl Lines {
         Ok(())
     }
 
-    /// The input has ended: a last line may lack its LF.
-    pub fn finish(&mut self, out: &mut impl Write) -> io::Result<()> {
-        if self.begun.is_empty() {
-            return Ok(());
+    /// The input has ended: a last line may lack its LF. The card is given back.
+    pub fn finish(mut self, out: &mut impl Write) -> io::Result<Card> {
+        if !self.begun.is_empty() {
+            self.answer_begun(out)?;
         }
-        self.answer_begun(out)
+        Ok(self.card)
     }
 
     fn answer_begun(&mut self, out: &mut impl Write) -> io::Result<()> {

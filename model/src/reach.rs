@@ -386,7 +386,7 @@ impl<'a> Player<'a> {
     fn saved(&mut self, number: u8, length: usize) {
         let lines = saved::length();
         let done = number == 0;
-        let other = done && saved_lines(&self.card) != saved_lines(&Card::reset());
+        let other = done && saved::lines(&self.card) != saved::lines(&Card::reset());
         self.count(SAVED, done);
         self.count(SAVED_EXACT, done && length == lines);
         self.count(SAVED_LONGER, done && length > lines);
@@ -412,13 +412,6 @@ fn loads_next(look: &Look) -> bool {
 /// Whether no channel has loaded since the last trigger.
 fn is_pending(looks: [Look; CHANNELS]) -> bool {
     looks.iter().all(|look| look.countdown > LOAD_AT)
-}
-
-/// The saved lines of a card.
-fn saved_lines(card: &Card) -> Vec<u8> {
-    let mut lines = vec![0; saved::length()];
-    saved::save(card, &mut lines).expect("the lines have their room");
-    lines
 }
 
 /// The start of a read.

@@ -79,6 +79,13 @@ pub fn save(card: &Card, buffer: &mut [u8]) -> Result<usize, Number> {
     Ok(length)
 }
 
+/// The card's saved lines.
+pub fn lines(card: &Card) -> Vec<u8> {
+    let mut lines = vec![0; length()];
+    save(card, &mut lines).expect("the lines have their room");
+    lines
+}
+
 /// Fills a line's bytes.
 fn put_line(line: &mut [u8], start: u16, words: &[u16]) {
     line[..2].copy_from_slice(b"01");

@@ -6,13 +6,6 @@ use crate::map::Place;
 use crate::program::{self, Program};
 use crate::sine::WAVE_WORDS;
 
-/// The lines of a card, in a buffer that they fill.
-fn lines(card: &Card) -> Vec<u8> {
-    let mut buffer = vec![0; length()];
-    assert_eq!(save(card, &mut buffer), Ok(buffer.len()));
-    buffer
-}
-
 fn text(card: &Card) -> String {
     String::from_utf8(lines(card)).unwrap()
 }
