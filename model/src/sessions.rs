@@ -41,6 +41,26 @@ const REGIONS: [(u16, u16); 28] = [
     (0x4220, 0x423F),
 ];
 
+/// The regions of settings from their first word that is not fixed, each with
+/// a value that all words up to it are accepted with.
+const SETTINGS: [(u16, u16, u16); 15] = [
+    (0x0080, 0x07FF, 0xFFFF),
+    (0x0800, 0x081F, 15),
+    (0x0840, 0x085F, 31),
+    (0x0861, 0x087F, 0xFFFF),
+    (0x0880, 0x089F, 31),
+    (0x08A1, 0x08BF, 0xFFFF),
+    (0x08E0, 0x08FF, 70),
+    (0x0900, 0x091F, 31),
+    (0x0920, 0x093F, 0xFFFF),
+    (0x0940, 0x095F, 31),
+    (0x0960, 0x097F, 0xFFFF),
+    (0x0A00, 0x0A00, 1),
+    (0x0A01, 0x0A01, 1),
+    (0x4000, 0x40FF, 0xFF),
+    (0x4200, 0x4200, 1),
+];
+
 /// Addresses around the regions that belong to none.
 const UNLISTED: [u16; 20] = [
     0x0820, 0x083F, 0x08C0, 0x08DF, 0x0980, 0x09FF, 0x0A02, 0x0A03, 0x0A05, 0x0A2F, 0x0A35, 0x0A38,
@@ -110,6 +130,8 @@ fn session(program: Program, seed: u64, index: u64) -> Vec<u8> {
     let lines = session.length();
     if lines > 5 && session.random.percent(90) {
         session.set_up();
+    } else if session.random.percent(80) {
+        session.write_settings();
     }
     let lines = session.lines + lines;
     while session.lines < lines {
@@ -126,7 +148,7 @@ fn session(program: Program, seed: u64, index: u64) -> Vec<u8> {
 type Step = (u16, fn(&mut Session));
 
 /// The kinds of steps a session of the line program is made of.
-const STEPS: [Step; 30] = [
+const STEPS: [Step; 31] = [
     (26, Session::some_ticks),
     (8, Session::trigger),
     (12, Session::awkward_moment),
@@ -134,6 +156,7 @@ const STEPS: [Step; 30] = [
     (4, Session::wait_for_the_first_load),
     (2, Session::sine_moment),
     (12, Session::change_setting),
+    (2, Session::write_settings),
     (3, Session::change_sine),
     (2, Session::read_sine),
     (1, Session::write_bad_sine),
@@ -514,6 +537,26 @@ impl Session {
             }
             _ => self.write_delay(base, level),
         }
+    }
+
+    /// Up to 64 settings in one frame: from the first word of a region on, up to
+    /// its last, or between.
+    fn write_settings(&mut self) {
+        let (first, last, greatest) = self.random.pick(&SETTINGS);
+        let base = if first < 0x4000 { self.base() } else { 0 };
+        let room = last - first + 1;
+        let count = self.random.pick(&[64, 64, 32, 1, 5]).min(room);
+        let between = self.random.within(first, last + 1 - count);
+        let start = self.random.pick(&[first, last + 1 - count, between]);
+        let words: Vec<u16> = (start..start + count)
+            .map(|address| match address {
+                // Each event at one slot.
+                0x4000..=0x40FF => self.random.pick(&[0xFE, address & 0xFF]),
+                _ => self.random.within(0, greatest),
+            })
+            .collect();
+        self.note_delays(base + start, &words);
+        self.write(base + start, &words);
     }
 
     fn switch_clock(&mut self) {
@@ -1043,7 +1086,10 @@ impl Session {
 mod tests {
     use super::*;
     use crate::card::Card;
+    use crate::line::field;
+    use crate::program::{self, Lines};
     use crate::reach::Reach;
+    use crate::saved;
     use std::collections::BTreeSet;
 
     #[test]
@@ -1067,6 +1113,63 @@ mod tests {
             let lines = reach.to_string();
             let missed = lines.lines().find(|line| line.trim().starts_with("0 "));
             assert_eq!(missed, None, "{program:?}");
+        }
+    }
+
+    /// How many sessions leave other settings than a reset card's: in all, and
+    /// in each kind of region.
+    fn changed(sessions: u64) -> (u64, [u64; SETTINGS.len()]) {
+        let reset = saved::lines(&Card::reset());
+        let (mut all, mut kinds) = (0, [0; SETTINGS.len()]);
+        for index in 0..sessions {
+            let lines = saved::lines(&played(&session(Program::Rampcard, 4, index)));
+            let pairs = lines
+                .split(|&byte| byte == b'\n')
+                .zip(reset.split(|&byte| byte == b'\n'));
+            let starts: Vec<u16> = pairs
+                .filter(|(line, reset)| line != reset)
+                .map(|(line, _)| field(&line[2..6]).unwrap())
+                .map(|start| {
+                    if start < 0x4000 {
+                        start & 0x0FFF
+                    } else {
+                        start
+                    }
+                })
+                .collect();
+            all += u64::from(!starts.is_empty());
+            for (kind, (first, last, _)) in kinds.iter_mut().zip(SETTINGS) {
+                let here = |start: &u16| (first..=last).contains(start);
+                *kind += u64::from(starts.iter().any(here));
+            }
+        }
+        (all, kinds)
+    }
+
+    /// The card at the end of a session of the line program.
+    fn played(session: &[u8]) -> Card {
+        let mut lines = Lines::new(Program::Rampcard);
+        lines.take(session, &mut io::sink()).unwrap();
+        lines.finish(&mut io::sink()).unwrap()
+    }
+
+    /// Few sessions end with a reset card's settings, and every kind of region
+    /// is another in a third of them.
+    #[test]
+    fn settings_of_every_kind_are_changed_at_the_end() {
+        let (all, kinds) = changed(200);
+        assert!(20 * all > 19 * 200, "{all}");
+        assert!(kinds.iter().all(|&kind| 3 * kind > 200), "{kinds:?}");
+    }
+
+    /// Whatever a session leaves: its lines, played and saved again, are the same.
+    #[test]
+    fn saved_lines_go_round() {
+        for index in 0..60 {
+            let lines = saved::lines(&played(&session(Program::Rampcard, 5, index)));
+            assert_eq!(saved::lines(&played(&lines)), lines, "{index}");
+            let answers = program::answers(Program::Rampcard, &lines);
+            assert!(answers.lines().all(|answer| answer.starts_with("8100")));
         }
     }
 
