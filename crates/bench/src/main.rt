@@ -231,6 +231,7 @@ fn answer(
         0x10 => hand_in(waves, card, line, out),
         0x11 => write_slice(settings, tables, card, line, out),
         0x12 => read_slice(settings, card, line, out),
+        0x15 => save(settings, card, line, out),
         0x18 => reset(settings, tables, waves, card, line, out),
         0x1B => plot(settings, card, line, out),
         0x1C => show(card, line, out),
@@ -362,6 +363,47 @@ fn put_answer(out: &mut [u8], name: usize, answer: Answer) {
         transfer::number(answer),
         transfer::processed(answer),
     )
+}
+
+// 15, length (8) up to 10000 (hex): the settings saved as lines, into a buffer of that many bytes, each 55 (hex) before.
+fn save(settings: &[u16; 16960], card: Card, line: &[u8], out: &mut [u8]) -> Answered
+    ensures { λ r. ⌜ r .end ≤ 16393 ⌝ }
+{
+    if line.len() != 10 {
+        return bad(card, out);
+    }
+    let asked = (digits::word_at(line, 2) as usize) * 65536 + (digits::word_at(line, 6) as usize);
+    if 65536 < asked {
+        return bad(card, out);
+    }
+    let mut buffer = [0x55u8; 65536];
+    save_into(settings, &mut buffer[..asked], out);
+    Answered {
+        card: card,
+        end: 20,
+    }
+}
+
+// The save itself, and 95, number (2), bytes written (8), Adler-32 of the whole buffer (8).
+fn save_into(settings: &[u16; 16960], buffer: &mut [u8], out: &mut [u8]) {
+    let saved = saved::save(settings, buffer);
+    digits::put2(out, 0, 0x95);
+    digits::put2(out, 2, saved::number(saved) as usize);
+    put8(out, 4, saved::written(saved));
+    put8(out, 12, adler(buffer));
+}
+
+// Adler-32 of some bytes.
+fn adler(bytes: &[u8]) -> usize {
+    let mut a: usize = 1;
+    let mut b: usize = 0;
+    let mut i: usize = 0;
+    while i < bytes.len() {
+        a = (a + (bytes[i] as usize)) % 65521;
+        b = (b + a) % 65521;
+        i = i + 1;
+    }
+    b * 65536 + a
 }
 
 // 18: a reset.

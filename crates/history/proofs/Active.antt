@@ -20,7 +20,7 @@ use Rattle.card.specs.Tick.{advanced}
 use Rattle.card.specs.Reset.{cardReset, resetOf}
 use Rattle.transfer.specs.Transfer.{writeOf}
 use Rattle.course.proofs.Copies.{choose}
-use Rattle.history.specs.History.{Act, Tick, Write, Read, HandIn, Reset, act, acts, wordsDone, manualAmong, triggerBy, isReset, Quiet, ticksIn}
+use Rattle.history.specs.History.{Act, Tick, Write, Ask, HandIn, Reset, act, acts, wordsDone, manualAmong, triggerBy, isReset, Quiet, ticksIn}
 use Rattle.history.specs.Effects.{Does, Keeps, Outputs, ClearsOverflow, ClearsCount, Erases, Idles, Triggers}
 use Rattle.history.specs.Triggers.{eventBy}
 use Rattle.history.specs.Story.{byTrigger, inTick, atTrigger}
@@ -60,7 +60,7 @@ write-keeps =
 before-active : (st : State) (x : Act) → justBefore st x .card .active ≡ cond (loadsBefore st x) (st .card .pending) (st .card .active)
 before-active st (Tick waves event) = advanced-active waves st
 before-active st (Write start count ws) = refl
-before-active st (Read start count ws) = refl
+before-active st (Ask what) = refl
 before-active st (HandIn to ws) = refl
 before-active st Reset = refl
 
@@ -113,7 +113,7 @@ act-shown st x later =
         → cond later (act st y .card .pending) (act st y .card .active) ≡ activeAfter Nobody y later (cond (loadsBefore st y || later) p a)
     quiet (Tick waves event) e = rw (quiet-tick waves st event e, advanced-pending waves st, advanced-active waves st) (or-else later (loadsByCounting waves st) p a)
     quiet (Write start count ws) e = still later (act st (Write start count ws) .card) (write-keeps st start count ws e)
-    quiet (Read start count ws) e = refl
+    quiet (Ask what) e = refl
     quiet (HandIn to ws) e = refl
     quiet Reset e = choose (λ (x : Cause). x ≡ atReset) later atReset atReset refl refl
 
@@ -154,7 +154,7 @@ quiet-last st (x ∷ xs) q old = quiet-last (act st x) xs (q .1) _ ∙ go x (q .
     go : (y : Act) → triggerBy st y ≡ Nobody → isReset y ≡ false → activeAfter (triggerBy st y) y (loadsAfter st y xs) old ≡ old
     go (Tick waves event) e f = rw e
     go (Write start count ws) e f = rw e
-    go (Read start count ws) e f = refl
+    go (Ask what) e f = refl
     go (HandIn to ws) e f = refl
     go Reset e f = absurd (true≢false f)
 
@@ -251,7 +251,7 @@ first-load st (Write start count ws ∷ xs) f q m r =
     rw (loads-told st (Write start count ws), no-trigger st (Write start count ws) e)
     (first-load (act st (Write start count ws)) xs (write-part 0 (omega arith) st start count ws f e .settled) (q .1) m
     (same-first st (act st (Write start count ws)) m (λ c h. ap toStart (part-keeps c st _ (write-part c h st start count ws f e) .phase)) r))
-first-load st (Read start count ws ∷ xs) f q m r = first-load st xs f (q .1) m r
+first-load st (Ask what ∷ xs) f q m r = first-load st xs f (q .1) m r
 first-load st (HandIn to ws ∷ xs) f q m r = first-load st xs f (q .1) m r
 first-load st (Reset ∷ xs) f q m r = absurd (true≢false (q .0 .noReset))
 

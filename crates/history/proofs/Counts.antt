@@ -21,7 +21,7 @@ use Rattle.card.specs.Trigger.{struck, triggerOf, acceptedOf, onEvent}
 use Rattle.card.specs.Tick.{advanced}
 use Rattle.card.specs.Reset.{cardReset, resetOf}
 use Rattle.transfer.specs.Transfer.{writeOf}
-use Rattle.history.specs.History.{Act, Tick, Write, Read, HandIn, Reset, act, acts, wordsDone, manualAmong, triggerBy}
+use Rattle.history.specs.History.{Act, Tick, Write, Ask, HandIn, Reset, act, acts, wordsDone, manualAmong, triggerBy}
 use Rattle.history.specs.Effects.{Does, Keeps, Outputs, ClearsOverflow, ClearsCount, Erases, Idles, Triggers}
 use Rattle.history.specs.Counts.{doesAt, clears, tally, triggersSince, CountsRight}
 use Rattle.history.proofs.Addresses.{count-register}
@@ -150,7 +150,7 @@ module _ (level : ℕ) (inside : level < 32) where
   acts-right st [] n h = h
   acts-right st (Tick waves event ∷ xs) n h = acts-right (act st (Tick waves event)) xs _ (tick-right waves st event n h)
   acts-right st (Write start count ws ∷ xs) n h = acts-right (act st (Write start count ws)) xs _ (write-right st start count ws n h)
-  acts-right st (Read start count ws ∷ xs) n h = acts-right st xs n h
+  acts-right st (Ask what ∷ xs) n h = acts-right st xs n h
   acts-right st (HandIn to ws ∷ xs) n h = acts-right st xs n h
   acts-right st (Reset ∷ xs) n h = acts-right (act st Reset) xs 0 (reset-right (st .settings) (st .tables))
 

@@ -16,6 +16,7 @@ use Rattle.history.proofs.Numbers.{write-answered, read-answered}
 use Rattle.history.proofs.Effects.{all-effects}
 use Rattle.history.proofs.Counted.{counted-is-done}
 use Rattle.history.proofs.Waves.{wave-tables}
+use Rattle.history.proofs.Saves.{save-answered}
 
 module _ (s : List ℕ) (level event : ℕ) where
   held : heldAt s (R.Slot level) event ≡ true → HeldElsewhere s level event
@@ -47,6 +48,7 @@ demand1 =
       effects = all-effects;
       counted = counted-is-done;
       tables = wave-tables;
+      saves = λ st buffer. save-answered (st .settings) buffer;
       seven = held;
       seven-only = held-only;
     }

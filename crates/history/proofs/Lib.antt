@@ -19,6 +19,7 @@ pub mod Settings
 pub mod Counted
 pub mod Waves
 pub mod Sines
+pub mod Saves
 pub mod Demand1
 pub mod Counts
 pub mod Triggers

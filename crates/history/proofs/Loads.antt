@@ -26,7 +26,7 @@ use Rattle.card.specs.Active.{cause}
 use Rattle.card.specs.Trigger.{counted, struck, triggerOf}
 use Rattle.card.specs.Tick.{advanced}
 use Rattle.course.proofs.Copies.{choose}
-use Rattle.history.specs.History.{Act, Tick, Write, Read, HandIn, Reset, wordsDone}
+use Rattle.history.specs.History.{Act, Tick, Write, Ask, HandIn, Reset, wordsDone}
 use Rattle.history.specs.Story.{Happening, Load, Sample, FreeSample, Output, Clear, Fresh, byRamp, byStart, inPhase, byTrigger, byWord, byWords, inTick, atTrigger}
 use Rattle.history.specs.Active.{loadAmong, loadsBy, loadsByCounting, loadsBefore, loadsAtTrigger}
 use Rattle.history.proofs.Cards.{count-keeps}
@@ -92,7 +92,7 @@ loads-told st (Write start count ws) =
     (λ c h. load-append (atTrigger st (Write start count ws) c) (byWords c start (wordsDone st start count ws))
     ∙ ap (λ (b : Bool). loadAmong (atTrigger st (Write start count ws) c) || b) (words-load c start (wordsDone st start count ws))
     ∙ or-false (loadAmong (atTrigger st (Write start count ws) c)))
-loads-told st (Read start count ws) = refl
+loads-told st (Ask what) = refl
 loads-told st (HandIn to ws) = refl
 loads-told st Reset = refl
 

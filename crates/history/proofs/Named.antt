@@ -20,7 +20,7 @@ use Rattle.card.specs.Tick.{advanced}
 use Rattle.card.specs.Reset.{cardReset, resetOf}
 use Rattle.course.proofs.Copies.{choose}
 use Rattle.course.proofs.Acts.{tick-level}
-use Rattle.history.specs.History.{Act, Tick, Write, Read, HandIn, Reset, act, acts, readBack, triggerBy}
+use Rattle.history.specs.History.{Act, Tick, Write, Ask, HandIn, Reset, act, acts, readBack, triggerBy}
 use Rattle.history.specs.Triggers.{eventBy}
 use Rattle.history.specs.Story.{Happening, Load, byRamp, byStart, inPhase, byTrigger, inTick, atTrigger}
 use Rattle.history.specs.Countdowns.{justBefore}
@@ -88,7 +88,7 @@ act-levels st x h = go (triggerBy st x) refl
     quiet : (y : Act) → triggerBy st y ≡ Nobody → Levels (act st y)
     quiet (Tick waves event) e = rw (quiet-tick waves st event e) (tick-levels waves st h)
     quiet (Write start count ws) e = write-levels st start count ws e h
-    quiet (Read start count ws) e = h
+    quiet (Ask what) e = h
     quiet (HandIn to ws) e = h
     quiet Reset e = reset-levels (st .settings) (st .tables)
 

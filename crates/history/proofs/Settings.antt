@@ -21,7 +21,7 @@ use Rattle.card.specs.Reset.{settingsReset, resetOf}
 use Rattle.card.proofs.Ticks.{trigger-settings, tick-settings}
 use Rattle.transfer.specs.Word.{effectOf, readAt}
 use Rattle.transfer.specs.Transfer.{writeOf}
-use Rattle.history.specs.History.{Act, Tick, Write, Read, HandIn, Reset, act, acts, readBack, wordsDone}
+use Rattle.history.specs.History.{Act, Tick, Write, Ask, HandIn, Reset, act, acts, readBack, wordsDone}
 use Rattle.history.specs.Effects.{Does, Keeps, Outputs, ClearsOverflow, ClearsCount, Erases, Idles, Triggers}
 use Rattle.history.specs.Settings.{isSlot, isScale, resetWord, wordLeft, leftAt, lastWord, SettingsKept}
 use Rattle.map.proofs.Room.{named-below}
@@ -33,7 +33,7 @@ use Rattle.history.proofs.Writing.{write-by}
 use Rattle.history.proofs.Frame.{lengths-done, lengths-kept}
 use Rattle.history.specs.Frame.{LengthsKept}
 
-setting-named : (r : Register) → Kept r → named r ≡ true
+pub setting-named : (r : Register) → Kept r → named r ≡ true
 setting-named r (plain s e) = rw e
 setting-named r (fixed s e) = rw e
 setting-named r (slot l e) = rw e
@@ -139,7 +139,7 @@ module _ (b : ℕ) (setting : isSetting (registerOf b) ≡ true) where
   acts-left st (Write start count ws ∷ xs) w l e =
       acts-left (act st (Write start count ws)) xs _ (write-length st start count ws ∙ l)
       (write-left st start count ws l ∙ ap (leftAt b start (wordsDone st start count ws)) e)
-  acts-left st (Read start count ws ∷ xs) w l e = acts-left st xs w l e
+  acts-left st (Ask what ∷ xs) w l e = acts-left st xs w l e
   acts-left st (HandIn to ws ∷ xs) w l e = acts-left st xs w l e
   acts-left st (Reset ∷ xs) w l e = acts-left (act st Reset) xs (resetWord b) (reset-length (st .settings) ∙ l) (reset-left (st .settings) l)
 

@@ -34,7 +34,7 @@ use Rattle.transfer.specs.declared.Effect.the-variants.{Keep, Output, Erase, No
 use Rattle.transfer.specs.Word.{effectOf, performOf}
 use Rattle.transfer.specs.Transfer.{processedOf, writeOf}
 use Rattle.course.proofs.Copies.{choose}
-use Rattle.history.specs.History.{Act, Tick, Write, Read, HandIn, Reset, acts, Each, Words16}
+use Rattle.history.specs.History.{Act, Tick, Write, Ask, HandIn, Reset, acts, Each, Words16}
 use Rattle.history.specs.Sound.{Tables, ChannelSound, CauseSound, Sound, Reachable}
 use Rattle.history.proofs.Addresses.{slot-register}
 use Rattle.history.proofs.Words.{Passed, set-word, stored, erased-words, reset-words}
@@ -312,7 +312,7 @@ acts-sound : (st : State) (xs : List Act) → Words16 xs → Sound st → Sound 
 acts-sound st [] w h = h
 acts-sound st (Tick waves event ∷ xs) w h = acts-sound (tickWith waves st event) xs w (tick-sound-card waves st event h)
 acts-sound st (Write start count ws ∷ xs) w h = acts-sound (writeOf st start count ws .state) xs (w .1) (write-sound st start count ws (w .0) h)
-acts-sound st (Read start count ws ∷ xs) w h = acts-sound st xs w h
+acts-sound st (Ask what ∷ xs) w h = acts-sound st xs w h
 acts-sound st (HandIn to ws ∷ xs) w h = acts-sound st xs w h
 acts-sound st (Reset ∷ xs) w h =
     acts-sound (resetOf (st .settings) (st .tables)) xs w (reset-sound (st .settings) (st .tables) (h .settings .many) (h .tables .many))

@@ -42,7 +42,7 @@ use Rattle.course.specs.Points.{SameTable}
 use Rattle.course.proofs.Acts.{untimed-table}
 use Rattle.course.proofs.Tables.{Placed, same-enter, same-next, same-sample}
 use Rattle.course.proofs.Walk.{placed-enter, placed-next}
-use Rattle.history.specs.History.{Act, Tick, Write, Read, HandIn, Reset, act, acts, wordsDone, manualAmong, triggerBy, Words16}
+use Rattle.history.specs.History.{Act, Tick, Write, Ask, HandIn, Reset, act, acts, wordsDone, manualAmong, triggerBy, Words16}
 use Rattle.history.specs.Effects.{Does, Keeps, Outputs, ClearsOverflow, ClearsCount, Erases, Idles, Triggers}
 use Rattle.history.specs.Sound.{Sound, PhaseSound, RampSound}
 use Rattle.history.specs.Story.{Happening, Load, Sample, FreeSample, Output, Clear, sample, byRamp, byStart, inPhase, byTick, byTrigger, byWord, byWords, inTick, happens, story, Told, fresh, ramped, sounds, sines, tell, told, Shows, ChannelsRight, AtRest}
@@ -385,7 +385,7 @@ module _ (c : ℕ) (inside : c < 4) where
           rw (told-append c x (byTrigger (Level l) (st .settings) c) js, no-words start (wordsDone st start count ws) (y .here) (y .few), manual-write st start count ws l e)
           (struck-right st l 0xFE x r)
       go Nobody e = write-goes st start count ws (h .card .four) e .right x r
-  act-right st h (Read start count ws) x r = r
+  act-right st h (Ask what) x r = r
   act-right st h (HandIn to ws) x r = r
   act-right st h Reset x r = reset-right (st .settings) (st .tables)
 
@@ -399,14 +399,14 @@ module _ (c : ℕ) (inside : c < 4) where
       next-words : (y : Act) (ys : List Act) → Words16 (y ∷ ys) → Words16 ys
       next-words (Tick waves event) ys w = w
       next-words (Write start count ws) ys w = w .1
-      next-words (Read start count ws) ys w = w
+      next-words (Ask what) ys w = w
       next-words (HandIn to ws) ys w = w
       next-words Reset ys w = w
 
       one-words : (y : Act) (ys : List Act) → Words16 (y ∷ ys) → Words16 (y ∷ [])
       one-words (Tick waves event) ys w = tt
       one-words (Write start count ws) ys w = (w .0, tt)
-      one-words (Read start count ws) ys w = tt
+      one-words (Ask what) ys w = tt
       one-words (HandIn to ws) ys w = tt
       one-words Reset ys w = tt
 

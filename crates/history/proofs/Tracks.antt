@@ -20,7 +20,7 @@ use Rattle.card.proofs.Ticks.{advanced-settings, trigger-settings}
 use Rattle.course.specs.Course as C
 use Rattle.course.proofs.Acts.{tick-elsewhere, trigger-elsewhere, run-length, held-next, waves-next}
 use Rattle.course.proofs.Appends.{run-append, ticks-append, waves-first, held-later, waves-later, before-later}
-use Rattle.history.specs.History.{Act, Tick, Write, Read, HandIn, Reset, act, acts, triggerBy, Quiet, ticksIn, until, wavesOn}
+use Rattle.history.specs.History.{Act, Tick, Write, Ask, HandIn, Reset, act, acts, triggerBy, Quiet, ticksIn, until, wavesOn}
 use Rattle.history.specs.Triggers.{eventBy}
 use Rattle.history.specs.Countdowns.{justBefore}
 use Rattle.history.specs.Demand3.{sideAt}
@@ -208,7 +208,7 @@ module _ (c : ℕ) (inside : c < 4) where
   tracked st (Write start count ws ∷ xs) f q =
       let p = write-part c inside st start count ws f (q .0 .noTrigger) in
       after-write st start count ws xs p (tracked (act st (Write start count ws)) xs (p .settled) (q .1))
-  tracked st (Read start count ws ∷ xs) f q =
+  tracked st (Ask what ∷ xs) f q =
       let r = tracked st xs f (q .1) in
       record { doings = r .doings; same-ticks = r .same-ticks; runs = r .runs; held = r .held; waves = r .waves; passes = r .passes; settled = r .settled }
   tracked st (HandIn to ws ∷ xs) f q =
@@ -231,7 +231,7 @@ advanced-room waves st =
 pub trigger-is : (st : State) (x : Act) (level : ℕ) → triggerBy st x ≡ Level level → act st x ≡ triggerOf (justBefore st x) level (eventBy x)
 trigger-is st (Tick waves event) level e = rw (advanced-settings waves st, e)
 trigger-is st (Write start count ws) level e = manual-write st start count ws level e
-trigger-is st (Read start count ws) level e = let z : _≡_ {A = ℕ} 0 1 = cc in absurd (omega arith)
+trigger-is st (Ask what) level e = let z : _≡_ {A = ℕ} 0 1 = cc in absurd (omega arith)
 trigger-is st (HandIn to ws) level e = let z : _≡_ {A = ℕ} 0 1 = cc in absurd (omega arith)
 trigger-is st Reset level e = let z : _≡_ {A = ℕ} 0 1 = cc in absurd (omega arith)
 
@@ -241,13 +241,13 @@ struck-settings st x level e = ap (λ (z : State). z .settings) (trigger-is st x
 pub before-settings : (st : State) (x : Act) → justBefore st x .settings ≡ st .settings
 before-settings st (Tick waves event) = advanced-settings waves st
 before-settings st (Write start count ws) = refl
-before-settings st (Read start count ws) = refl
+before-settings st (Ask what) = refl
 before-settings st (HandIn to ws) = refl
 before-settings st Reset = refl
 
 pub before-room : (st : State) (x : Act) → length (justBefore st x .tables) ≡ length (st .tables)
 before-room st (Tick waves event) = advanced-room waves st
 before-room st (Write start count ws) = refl
-before-room st (Read start count ws) = refl
+before-room st (Ask what) = refl
 before-room st (HandIn to ws) = refl
 before-room st Reset = refl

@@ -24,7 +24,7 @@ use Rattle.card.specs.Card.{State, channelOf}
 use Rattle.card.specs.Reset.{wavesReset, resetOf}
 use Rattle.wavetable.specs.declared.Reply.the-variants.{Taken, Bad, Running}
 use Rattle.wavetable.specs.Hand.{Handed, handed, inWave, allInWave, badTable, handOf}
-use Rattle.history.specs.History.{Act, Tick, Write, Read, HandIn, Reset, act, isReset, ticksIn, until, wavesOn}
+use Rattle.history.specs.History.{Act, Tick, Write, Ask, HandIn, Reset, act, isReset, ticksIn, until, wavesOn}
 use Rattle.history.specs.Waves.{GoodTable, HandedIn, WaveTables, wavesAfter, wavesIn, LentAsLeft, takenFor, tableBy, lastTable, RunsThrough, WavesRight}
 
 -- ---- the words of a table
@@ -170,7 +170,7 @@ hand-shows c b k w to ws t s = hand-ind k w to ws (λ o. Shows c (o .waves) (tak
 shows-after : (c : ℕ) → c < 4 → (st : State) (w : List ℕ) (x : Act) (t : List ℕ) → Shows c w t → Shows c (wavesAfter st w x) (tableBy c st w x t)
 shows-after c b st w (Tick waves event) t s = s
 shows-after c b st w (Write start count ws) t s = s
-shows-after c b st w (Read start count ws) t s = s
+shows-after c b st w (Ask what) t s = s
 shows-after c b st w (HandIn to ws) t s = hand-shows c b (st .card) w to ws t s
 shows-after c b st w Reset t s = reset-shows c b w (s .long)
 
@@ -188,7 +188,7 @@ hand-inside c k w to ws t p = hand-ind k w to ws (λ o. Inside (takenFor c to ws
 inside-after : (c : ℕ) (st : State) (w : List ℕ) (x : Act) (t : List ℕ) → Inside t → Inside (tableBy c st w x t)
 inside-after c st w (Tick waves event) t p = p
 inside-after c st w (Write start count ws) t p = p
-inside-after c st w (Read start count ws) t p = p
+inside-after c st w (Ask what) t p = p
 inside-after c st w (HandIn to ws) t p = hand-inside c (st .card) w to ws t p
 inside-after c st w Reset t p = zeros-inside
 
@@ -210,7 +210,7 @@ kept : (st : State) (w : List ℕ) (x : Act) → isReset x ≡ false → (c : �
     → (i : ℕ) → i < entries → getD (wavesAfter st w x) (waveOf c + i) 0 ≡ getD w (waveOf c + i) 0
 kept st w (Tick waves event) e c b g i h = refl
 kept st w (Write start count ws) e c b g i h = refl
-kept st w (Read start count ws) e c b g i h = refl
+kept st w (Ask what) e c b g i h = refl
 kept st w (HandIn to ws) e c b g i h = hand-kept (st .card) w to ws c g i h
 kept st w Reset e c b g i h = absurd (true≢false e)
 
@@ -234,7 +234,7 @@ read st w z [] h n k = absurd (omega arith)
 read st w z (Tick waves event ∷ xs) h zero k = h .0
 read st w z (Tick waves event ∷ xs) h (suc n) k = read (act st (Tick waves event)) w z xs (h .1) n (omega arith)
 read st w z (Write start count ws ∷ xs) h n k = read (act st (Write start count ws)) w z xs h n k
-read st w z (Read start count ws ∷ xs) h n k = read st w z xs h n k
+read st w z (Ask what ∷ xs) h n k = read st w z xs h n k
 read st w z (HandIn to ws ∷ xs) h n k = read st (wavesAfter st w (HandIn to ws)) z xs h n k
 read st w z (Reset ∷ xs) h n k = read (act st Reset) (wavesAfter st w Reset) z xs h n k
 

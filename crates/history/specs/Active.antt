@@ -14,7 +14,7 @@ use Rattle.card.specs.Card.{State, onSome}
 use Rattle.card.specs.Active.{cause}
 use Rattle.card.specs.Tick.{advanced}
 use Rattle.card.specs.Reset.{resetOf}
-use Rattle.history.specs.History.{Act, Tick, Write, Read, HandIn, Reset, act, acts, readBack, triggerBy, Quiet, ticksIn}
+use Rattle.history.specs.History.{Act, Tick, Write, Ask, HandIn, Reset, act, acts, readBack, triggerBy, Quiet, ticksIn}
 use Rattle.history.specs.Triggers.{eventBy}
 use Rattle.history.specs.Story.{Happening, Load, Sample, FreeSample, Output, Clear, Fresh, inTick, atTrigger, happens}
 use Rattle.history.specs.Countdowns.{justBefore}
@@ -47,7 +47,7 @@ loadsByCounting w st = onSome (λ c. loadAmong (inTick w st c))
 abbrev pub loadsBefore : State → Act → Bool
 loadsBefore st (Tick waves event) = loadsByCounting waves st
 loadsBefore st (Write start count ws) = false
-loadsBefore st (Read start count ws) = false
+loadsBefore st (Ask what) = false
 loadsBefore st (HandIn to ws) = false
 loadsBefore st Reset = false
 
@@ -75,7 +75,7 @@ abbrev pub activeAfter : Holder → Act → Bool → Cause → Cause
 activeAfter (Level l) x loaded old = cond loaded (cause l (eventBy x)) old
 activeAfter Nobody (Tick waves event) loaded old = old
 activeAfter Nobody (Write start count ws) loaded old = old
-activeAfter Nobody (Read start count ws) loaded old = old
+activeAfter Nobody (Ask what) loaded old = old
 activeAfter Nobody (HandIn to ws) loaded old = old
 activeAfter Nobody Reset loaded old = atReset
 

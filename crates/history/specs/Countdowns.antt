@@ -13,7 +13,7 @@ use Rattle.channel.specs.Channel.{firstOf, lead, toStart, rampOf, countdown}
 use Rattle.card.specs.Card.{State, channelOf}
 use Rattle.card.specs.Tick.{advanced}
 use Rattle.course.specs.Points.{SameTable}
-use Rattle.history.specs.History.{Act, Tick, Write, Read, HandIn, Reset, act, triggerBy}
+use Rattle.history.specs.History.{Act, Tick, Write, Ask, HandIn, Reset, act, triggerBy}
 use Rattle.history.specs.Sound.{Sound}
 
 -- ---- the countdown
@@ -22,7 +22,7 @@ use Rattle.history.specs.Sound.{Sound}
 abbrev pub justBefore : State → Act → State
 justBefore st (Tick waves event) = advanced waves st
 justBefore st (Write start count ws) = st
-justBefore st (Read start count ws) = st
+justBefore st (Ask what) = st
 justBefore st (HandIn to ws) = st
 justBefore st Reset = st
 

@@ -8,7 +8,7 @@ use Rattle.slots.specs.declared.Holder.{Holder}
 use Rattle.slots.specs.declared.Holder.the-variants.{Level, Nobody}
 use Rattle.card.specs.Card.{State}
 use Rattle.card.specs.Reset.{resetOf}
-use Rattle.history.specs.History.{Act, Tick, Write, Read, HandIn, Reset, act, acts, readBack, wordsDone, triggerBy}
+use Rattle.history.specs.History.{Act, Tick, Write, Ask, HandIn, Reset, act, acts, readBack, wordsDone, triggerBy}
 
 -- one of the words done from address a on is done at address b
 abbrev pub doesAt : ℕ → ℕ → List ℕ → Bool
@@ -19,7 +19,7 @@ doesAt b a (v ∷ vs) = eqb a b || doesAt b (a + 1) vs
 abbrev pub clears : State → ℕ → Act → Bool
 clears st level (Tick waves event) = false
 clears st level (Write start count ws) = doesAt (0x4220 + level) start (wordsDone st start count ws)
-clears st level (Read start count ws) = false
+clears st level (Ask what) = false
 clears st level (HandIn to ws) = false
 clears st level Reset = true
 

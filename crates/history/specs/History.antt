@@ -1,4 +1,4 @@
--- A history of the card: ticks with their events, transfers, wave tables handed in and resets, one after the other.
+-- A history of the card: ticks with their events, transfers, saves, wave tables handed in and resets, one after the other.
 use mathlib.Core.Path.{_≡_}
 use mathlib.Core.Bool.{Bool, true, false, cond}
 use mathlib.Core.List.{List, [], _∷_}
@@ -15,12 +15,19 @@ use Rattle.map.specs.Map.{registerOf}
 use Rattle.transfer.specs.Word.{effectOf, performOf, readWord}
 use Rattle.transfer.specs.Transfer.{processedOf, writeOf}
 
+-- what is asked of the card: it answers, and nothing of it changes
+pub data Question : Type 0 where
+  -- a read: start, count and the words of its slice
+  Read : ℕ → ℕ → List ℕ → Question
+  -- its settings as lines, into a buffer
+  Save : List ℕ → Question
+
 pub data Act : Type 0 where
   -- a tick with the wave tables lent to it, and its event, 0xFE if there is none
   Tick : List ℕ → ℕ → Act
-  -- a transfer: start, count and words
+  -- a write: start, count and words
   Write : ℕ → ℕ → List ℕ → Act
-  Read : ℕ → ℕ → List ℕ → Act
+  Ask : Question → Act
   -- a wave table for a channel: its words change no part of the state, only the wave tables beside it (`specs/Waves`)
   HandIn : ℕ → List ℕ → Act
   Reset : Act
@@ -28,8 +35,8 @@ pub data Act : Type 0 where
 abbrev pub act : State → Act → State
 act st (Tick waves event) = tickWith waves st event
 act st (Write start count ws) = writeOf st start count ws .state
--- a read 'has no other effect': `readOf` answers with words alone
-act st (Read start count ws) = st
+-- a read 'has no other effect': `readOf` answers with words alone, and `saveOf` with bytes alone
+act st (Ask what) = st
 act st (HandIn to ws) = st
 act st Reset = resetOf (st .settings) (st .tables)
 
@@ -56,7 +63,7 @@ abbrev pub Words16 : List Act → Type 0
 Words16 [] = Unit
 Words16 (Tick waves event ∷ xs) = Words16 xs
 Words16 (Write start count ws ∷ xs) = Each (λ v. v < 65536) ws × Words16 xs
-Words16 (Read start count ws ∷ xs) = Words16 xs
+Words16 (Ask what ∷ xs) = Words16 xs
 Words16 (HandIn to ws ∷ xs) = Words16 xs
 Words16 (Reset ∷ xs) = Words16 xs
 
@@ -82,14 +89,14 @@ manualAmong a (v ∷ vs) = cond (eqb a 0x4202) (Level v) (manualAmong (a + 1) vs
 abbrev pub triggerBy : State → Act → Holder
 triggerBy st (Tick waves event) = acceptedOf (st .settings) event
 triggerBy st (Write start count ws) = manualAmong start (wordsDone st start count ws)
-triggerBy st (Read start count ws) = Nobody
+triggerBy st (Ask what) = Nobody
 triggerBy st (HandIn to ws) = Nobody
 triggerBy st Reset = Nobody
 
 abbrev pub isReset : Act → Bool
 isReset (Tick waves event) = false
 isReset (Write start count ws) = false
-isReset (Read start count ws) = false
+isReset (Ask what) = false
 isReset (HandIn to ws) = false
 isReset Reset = true
 
@@ -108,7 +115,7 @@ abbrev pub ticksIn : List Act → ℕ
 ticksIn [] = 0
 ticksIn (Tick waves event ∷ xs) = suc (ticksIn xs)
 ticksIn (Write start count ws ∷ xs) = ticksIn xs
-ticksIn (Read start count ws ∷ xs) = ticksIn xs
+ticksIn (Ask what ∷ xs) = ticksIn xs
 ticksIn (HandIn to ws ∷ xs) = ticksIn xs
 ticksIn (Reset ∷ xs) = ticksIn xs
 
@@ -119,7 +126,7 @@ until (suc n) [] = []
 until (suc zero) (Tick waves event ∷ xs) = []
 until (suc (suc n)) (Tick waves event ∷ xs) = Tick waves event ∷ until (suc n) xs
 until (suc n) (Write start count ws ∷ xs) = Write start count ws ∷ until (suc n) xs
-until (suc n) (Read start count ws ∷ xs) = Read start count ws ∷ until (suc n) xs
+until (suc n) (Ask what ∷ xs) = Ask what ∷ until (suc n) xs
 until (suc n) (HandIn to ws ∷ xs) = HandIn to ws ∷ until (suc n) xs
 until (suc n) (Reset ∷ xs) = Reset ∷ until (suc n) xs
 
@@ -130,6 +137,6 @@ wavesOn z (suc n) [] = z
 wavesOn z (suc zero) (Tick waves event ∷ xs) = waves
 wavesOn z (suc (suc n)) (Tick waves event ∷ xs) = wavesOn z (suc n) xs
 wavesOn z (suc n) (Write start count ws ∷ xs) = wavesOn z (suc n) xs
-wavesOn z (suc n) (Read start count ws ∷ xs) = wavesOn z (suc n) xs
+wavesOn z (suc n) (Ask what ∷ xs) = wavesOn z (suc n) xs
 wavesOn z (suc n) (HandIn to ws ∷ xs) = wavesOn z (suc n) xs
 wavesOn z (suc n) (Reset ∷ xs) = wavesOn z (suc n) xs

@@ -7,6 +7,7 @@ pub mod Sound
 pub mod Triggers
 pub mod Waves
 pub mod Sines
+pub mod Saves
 pub mod Demand1
 pub mod Settings
 pub mod Counts

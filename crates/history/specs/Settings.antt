@@ -9,7 +9,7 @@ use Rattle.map.specs.Map.{registerOf}
 use Rattle.map.specs.Settings.{isSetting}
 use Rattle.card.specs.Card.{State}
 use Rattle.card.specs.Reset.{resetOf}
-use Rattle.history.specs.History.{Act, Tick, Write, Read, HandIn, Reset, act, acts, readBack, wordsDone}
+use Rattle.history.specs.History.{Act, Tick, Write, Ask, HandIn, Reset, act, acts, readBack, wordsDone}
 
 -- 'trigger slots', 'scale factors'
 abbrev pub isSlot : ℕ → Bool
@@ -34,7 +34,7 @@ leftAt b a (v ∷ vs) w = leftAt b (a + 1) vs (wordLeft b a v w)
 abbrev pub leftBy : ℕ → State → Act → ℕ → ℕ
 leftBy b st (Tick waves event) w = w
 leftBy b st (Write start count ws) w = leftAt b start (wordsDone st start count ws) w
-leftBy b st (Read start count ws) w = w
+leftBy b st (Ask what) w = w
 leftBy b st (HandIn to ws) w = w
 leftBy b st Reset w = resetWord b
 

@@ -24,7 +24,7 @@ use Rattle.channel.specs.Signal.{counterNext, counterAt, overflows}
 use Rattle.channel.specs.Channel.{word, firstOf, loadsAt, loadedFor, countdown, noTone}
 use Rattle.card.specs.Card.{State, channelOf}
 use Rattle.card.specs.Reset.{resetOf}
-use Rattle.history.specs.History.{Act, Tick, Write, Read, HandIn, Reset, act, acts, readBack, wordsDone, triggerBy, Words16}
+use Rattle.history.specs.History.{Act, Tick, Write, Ask, HandIn, Reset, act, acts, readBack, wordsDone, triggerBy, Words16}
 
 -- ---- what can happen on a channel
 
@@ -93,7 +93,7 @@ atTrigger st x c = byTrigger (triggerBy st x) (st .settings) c
 abbrev pub happens : ℕ → State → Act → List Happening
 happens c st (Tick waves event) = inTick waves st c ++ atTrigger st (Tick waves event) c
 happens c st (Write start count ws) = atTrigger st (Write start count ws) c ++ byWords c start (wordsDone st start count ws)
-happens c st (Read start count ws) = []
+happens c st (Ask what) = []
 happens c st (HandIn to ws) = []
 happens c st Reset = Fresh ∷ []
 

@@ -6,7 +6,7 @@ use lib.ListN.{length, getD}
 use Rattle.slots.specs.declared.Holder.the-variants.{Level}
 use Rattle.slots.specs.Slots.{slotOf, levelOf}
 use Rattle.card.specs.Card.{State}
-use Rattle.history.specs.History.{Act, Tick, Write, Read, HandIn, Reset, readBack, wordsDone, triggerBy}
+use Rattle.history.specs.History.{Act, Tick, Write, Ask, HandIn, Reset, readBack, wordsDone, triggerBy}
 use Rattle.history.specs.Sound.{Sound}
 
 -- ---- the rule
@@ -34,7 +34,7 @@ pub record ByHand (start : ℕ) (done : List ℕ) (level : ℕ) : Type 0 where
 abbrev pub Accepted : State → Act → ℕ → Type 0
 Accepted st (Tick waves event) level = ByClock st event level
 Accepted st (Write start count ws) level = ByHand start (wordsDone st start count ws) level
-Accepted st (Read start count ws) level = ⊥
+Accepted st (Ask what) level = ⊥
 Accepted st (HandIn to ws) level = ⊥
 Accepted st Reset level = ⊥
 
@@ -47,7 +47,7 @@ pub record TriggerRule : Type 0 where
 abbrev pub eventBy : Act → ℕ
 eventBy (Tick waves event) = event
 eventBy (Write start count ws) = 0xFE
-eventBy (Read start count ws) = 0xFE
+eventBy (Ask what) = 0xFE
 eventBy (HandIn to ws) = 0xFE
 eventBy Reset = 0xFE
 

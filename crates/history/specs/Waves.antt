@@ -16,7 +16,7 @@ use Rattle.card.specs.Reset.{wavesReset, resetOf}
 use Rattle.wavetable.specs.declared.Reply.{Reply}
 use Rattle.wavetable.specs.declared.Reply.the-variants.{Taken, Bad, Running}
 use Rattle.wavetable.specs.Hand.{Handed, badTable, handOf, replyNumber}
-use Rattle.history.specs.History.{Act, Tick, Write, Read, HandIn, Reset, act, isReset, ticksIn, until, wavesOn}
+use Rattle.history.specs.History.{Act, Tick, Write, Ask, HandIn, Reset, act, isReset, ticksIn, until, wavesOn}
 use Rattle.history.specs.Numbers.{case, first}
 
 -- ---- one wave table handed in: 'first 9, for a channel above 3, a wrong length or a word out of range, then 8; neither changes anything'
@@ -48,7 +48,7 @@ pub record WaveTables : Type 0 where
 abbrev pub wavesAfter : State → List ℕ → Act → List ℕ
 wavesAfter st w (Tick waves event) = w
 wavesAfter st w (Write start count ws) = w
-wavesAfter st w (Read start count ws) = w
+wavesAfter st w (Ask what) = w
 wavesAfter st w (HandIn to ws) = handOf (st .card) w to ws .waves
 wavesAfter st w Reset = wavesReset w
 
@@ -61,7 +61,7 @@ abbrev pub LentAsLeft : State → List ℕ → List Act → Type 0
 LentAsLeft st w [] = Unit
 LentAsLeft st w (Tick waves event ∷ xs) = (waves ≡ w) × LentAsLeft (act st (Tick waves event)) w xs
 LentAsLeft st w (Write start count ws ∷ xs) = LentAsLeft (act st (Write start count ws)) w xs
-LentAsLeft st w (Read start count ws ∷ xs) = LentAsLeft st w xs
+LentAsLeft st w (Ask what ∷ xs) = LentAsLeft st w xs
 LentAsLeft st w (HandIn to ws ∷ xs) = LentAsLeft st (wavesAfter st w (HandIn to ws)) xs
 LentAsLeft st w (Reset ∷ xs) = LentAsLeft (act st Reset) (wavesAfter st w Reset) xs
 
@@ -74,7 +74,7 @@ takenFor c to ws Running t = t
 abbrev pub tableBy : ℕ → State → List ℕ → Act → List ℕ → List ℕ
 tableBy c st w (Tick waves event) t = t
 tableBy c st w (Write start count ws) t = t
-tableBy c st w (Read start count ws) t = t
+tableBy c st w (Ask what) t = t
 tableBy c st w (HandIn to ws) t = takenFor c to ws (handOf (st .card) w to ws .reply) t
 tableBy c st w Reset t = replicate entries 0
 

@@ -23,7 +23,7 @@ use Rattle.line.specs.declared.Answered.{Answered}
 use Rattle.line.specs.declared.Stream.{Stream}
 use Rattle.line.specs.Frame.{wordsIn, wordsOf, frameOf, writeFrame, readFrame, ticksFrame, eventFrame}
 use Rattle.line.specs.Answer.{headOf, outputsOf, outputsText, Step, onFrame, stepOf, Answers}
-use Rattle.line.specs.Session.{linesFrom, linesOf, answersOf, session, Flow, flow, bare, after, most, longest, ended, kept, byteOf, feedOf, takenOf, finishOf, Feeds, streamOf, Fed, Finished, serveOf, writtenOf, joined, endsIn}
+use Rattle.line.specs.Session.{linesFrom, linesOf, answersOf, playedOf, session, Flow, flow, bare, after, most, longest, ended, kept, byteOf, feedOf, takenOf, finishOf, Feeds, streamOf, Fed, Finished, serveOf, writtenOf, joined, endsIn}
 use Rattle.digits.proofs.Digits.{take-sets}
 use Rattle.line.proofs.Frames.{step-is}
 use Rattle.line.proofs.Flows.{kept-is, feed-append, feed-after, taken-some}
@@ -116,17 +116,20 @@ ended-text w t p H =
     let e : stepOf w (t .state) (take (t .held) (t .line)) ≡ stepOf w (t .state) p = ap (stepOf w (t .state)) (H .same) ∙ clip w (t .state) p in
     (ap (λ (d : Step). t .text ++ (d .text ++ 10 ∷ [])) e, ap (λ (d : Step). d .state) e)
 
-finish-all : (w : List ℕ) (room : ℕ) → longest ≤ room → (t : Flow) (p : List ℕ) → Holds t p → finishOf w room t .text ≡ t .text ++ answersOf w (t .state) (linesFrom p [])
-unfolding finishOf answersOf linesFrom
+-- the flow d is t after lines: their answers follow, and they leave its state
+abbrev Plays : List ℕ → Flow → List (List ℕ) → Flow → Type 0
+Plays w t ls d = (d .text ≡ t .text ++ answersOf w (t .state) ls) × (d .state ≡ playedOf w (t .state) ls)
+
+finish-all : (w : List ℕ) (room : ℕ) → longest ≤ room → (t : Flow) (p : List ℕ) → Holds t p → Plays w t (linesFrom p []) (finishOf w room t)
+unfolding finishOf answersOf playedOf linesFrom
 finish-all w room r t [] H =
     let z : t .held ≡ 0 = held-is t [] H in
-    rw (eq-eqb (t .held) 0 z) (sym (append-nil (t .text)))
+    rw (eq-eqb (t .held) 0 z) (sym (append-nil (t .text)), refl)
 finish-all w room r t (a ∷ p) H =
     let n : t .held ≡ min most (suc (length p)) = held-is t (a ∷ p) H in
     let z : (t .held ≡ 0 → ⊥) = λ e. omega arith in
     rw (ne-eqb (t .held) 0 z, le-leb longest room r)
-    (ended-text w t (a ∷ p) H .0
-    ∙ ap (λ (y : List ℕ). t .text ++ y) (sym (append-nil _)))
+    (ended-text w t (a ∷ p) H .0 ∙ ap (λ (y : List ℕ). t .text ++ y) (sym (append-nil _)), ended-text w t (a ∷ p) H .1)
 
 module _ (st : State) (l : List ℕ) (h : ℕ) (x : List ℕ) where
   kept-holds : (p : List ℕ) (b : ℕ) → Holds (flow st l h x) p → Holds (kept (flow st l h x) b) (p ++ b ∷ [])
@@ -140,25 +143,36 @@ module _ (st : State) (l : List ℕ) (h : ℕ) (x : List ℕ) where
 
 module _ (w : List ℕ) (room : ℕ) (r : longest ≤ room) where
   -- what the rest of the input gives, after a byte b
-  fed-by : (s : List ℕ) → ((t : Flow) (p : List ℕ) → Holds t p → finishOf w room (feedOf w t s) .text ≡ t .text ++ answersOf w (t .state) (linesFrom p s))
+  fed-by : (s : List ℕ) → ((t : Flow) (p : List ℕ) → Holds t p → Plays w t (linesFrom p s) (finishOf w room (feedOf w t s)))
       → (q : Bool) (b : ℕ) (t : Flow) (p : List ℕ) → Holds t p
-      → finishOf w room (feedOf w (cond q (ended w t) (kept t b)) s) .text ≡ t .text ++ answersOf w (t .state) (cond q (p ∷ linesFrom [] s) (linesFrom (p ++ b ∷ []) s))
-  unfolding answersOf
+      → Plays w t (cond q (p ∷ linesFrom [] s) (linesFrom (p ++ b ∷ []) s)) (finishOf w room (feedOf w (cond q (ended w t) (kept t b)) s))
+  unfolding answersOf playedOf
   fed-by s ih true b t p H =
       let e = ended-text w t p H in
-      ih (ended w t) [] (ended-holds w t p H)
-      ∙ ap (λ (y : List ℕ). y ++ answersOf w (ended w t .state) (linesFrom [] s)) (e .0)
-      ∙ ap (λ (z : State). (t .text ++ (stepOf w (t .state) p .text ++ 10 ∷ [])) ++ answersOf w z (linesFrom [] s)) (e .1)
-      ∙ append-assoc (t .text) (stepOf w (t .state) p .text ++ 10 ∷ []) (answersOf w (stepOf w (t .state) p .state) (linesFrom [] s))
+      let r = ih (ended w t) [] (ended-holds w t p H) in (
+        r .0
+        ∙ ap (λ (y : List ℕ). y ++ answersOf w (ended w t .state) (linesFrom [] s)) (e .0)
+        ∙ ap (λ (z : State). (t .text ++ (stepOf w (t .state) p .text ++ 10 ∷ [])) ++ answersOf w z (linesFrom [] s)) (e .1)
+        ∙ append-assoc (t .text) (stepOf w (t .state) p .text ++ 10 ∷ []) (answersOf w (stepOf w (t .state) p .state) (linesFrom [] s)),
+        r .1 ∙ ap (λ (z : State). playedOf w z (linesFrom [] s)) (e .1),
+      )
   fed-by s ih false b t p H =
-      ih (kept t b) (p ++ b ∷ []) (kept-holds (t .state) (t .line) (t .held) (t .text) p b H)
-      ∙ ap (λ (y : List ℕ). y ++ answersOf w (kept t b .state) (linesFrom (p ++ b ∷ []) s)) (kept-text (t .state) (t .line) (t .held) (t .text) b)
-      ∙ ap (λ (z : State). t .text ++ answersOf w z (linesFrom (p ++ b ∷ []) s)) (kept-state (t .state) (t .line) (t .held) (t .text) b)
+      let r = ih (kept t b) (p ++ b ∷ []) (kept-holds (t .state) (t .line) (t .held) (t .text) p b H) in
+      let e = kept-state (t .state) (t .line) (t .held) (t .text) b in (
+        r .0
+        ∙ ap (λ (y : List ℕ). y ++ answersOf w (kept t b .state) (linesFrom (p ++ b ∷ []) s)) (kept-text (t .state) (t .line) (t .held) (t .text) b)
+        ∙ ap (λ (z : State). t .text ++ answersOf w z (linesFrom (p ++ b ∷ []) s)) e,
+        r .1 ∙ ap (λ (z : State). playedOf w z (linesFrom (p ++ b ∷ []) s)) e,
+      )
 
-  fed-all : (s : List ℕ) (t : Flow) (p : List ℕ) → Holds t p → finishOf w room (feedOf w t s) .text ≡ t .text ++ answersOf w (t .state) (linesFrom p s)
+  fed-all : (s : List ℕ) (t : Flow) (p : List ℕ) → Holds t p → Plays w t (linesFrom p s) (finishOf w room (feedOf w t s))
   unfolding feedOf byteOf linesFrom
   fed-all [] t p H = finish-all w room r t p H
   fed-all (b ∷ s) t p H = fed-by s (fed-all s) (eqb b 10) b t p H
+
+  -- THE CARD AFTER THE INPUT is the one that its lines leave
+  pub input-leaves : (st : State) (line s : List ℕ) → most ≤ length line → finishOf w room (feedOf w (flow st line 0 []) s) .state ≡ playedOf w st (linesOf s)
+  input-leaves st line s h = fed-all s (flow st line 0 []) [] (record { size = h; fits = omega arith; same = refl }) .1
 
 -- ---- chunk by chunk
 
@@ -214,7 +228,7 @@ unfolding session
 chunks-give-session room r cs settings tables waves line h =
     let w : List ℕ = wavesReset waves in
     let t : Flow = flow (resetOf settings tables) line 0 [] in
-    written-is w room r cs t ∙ fed-all w room r (joined cs) t [] (record { size = h; fits = omega arith; same = refl })
+    written-is w room r cs t ∙ fed-all w room r (joined cs) t [] (record { size = h; fits = omega arith; same = refl }) .0
 
 -- ---- one answer line for each line
 

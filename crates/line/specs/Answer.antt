@@ -1,11 +1,13 @@
 -- 'Answer line': the answer to a line, and the state after it.
 use mathlib.Core.Path.{_≡_}
+use mathlib.Core.Bool.{Bool, true, false, not, _&&_, _||_}
 use mathlib.Core.List.{List, [], _∷_, _++_}
 use Prim.Native.Nat.{ℕ, _+_, _≤_}
+use lib.Dec.{eqb}
 use lib.ListN.{length, take, replicate}
 use lib.Seq.{sets}
 use Rattle.word.specs.Lent.{Lent, lent, left}
-use Rattle.digits.specs.Digits.{hex2, hex4, hexAll}
+use Rattle.digits.specs.Digits.{byteAt, hex2, hex4, hexAll}
 use Rattle.card.specs.declared.Card.{Card}
 use Rattle.card.specs.Card.{State, state, channelOf}
 use Rattle.card.specs.Tick.{tickWith, ticks}
@@ -60,6 +62,19 @@ onFrame w st s Bad = step st (hex2 0xFF)
 -- what a line does
 unfoldable pub stepOf : List ℕ → State → List ℕ → Step
 stepOf w st s = onFrame w st s (frameOf s)
+
+-- ---- a line that is not answered 0: it 'answers FF', or with a number; ticks and events have none
+
+abbrev pub refusedFrame : State → List ℕ → Frame → Bool
+refusedFrame st s (Write start count) = not (eqb (numberOf (writeOf st start count (wordsOf count s) .answer)) 0)
+refusedFrame st s (Read start count) = not (eqb (numberOf (readOf (st .settings) (st .card) start count (replicate 64 0) .answer)) 0)
+refusedFrame st s (Ticks n) = false
+refusedFrame st s (Event e) = false
+refusedFrame st s Bad = true
+
+-- as its answer tells it
+abbrev pub refusedIn : List ℕ → Bool
+refusedIn x = eqb (byteAt x 0) 0xFF || ((eqb (byteAt x 0) 0x81 || eqb (byteAt x 0) 0x82) && not (eqb (byteAt x 2) 0))
 
 -- ---- what the functions that answer show
 

@@ -11,7 +11,7 @@ ghost use Rattle.card.specs.Card.{before, LeavesWhole, channelOf};
 ghost use Rattle.card.specs.Reset.{wavesReset, resetOf};
 ghost use Rattle.transfer.specs.Transfer.{writeOf, readOf};
 ghost use Rattle.line.specs.Frame.{wordsOf, frameOf, writeFrame, readFrame, ticksFrame, eventFrame};
-ghost use Rattle.line.specs.Answer.{headOf, wrote, readText, outputsOf, outputsText, onFrame, stepOf, Puts, Gives};
+ghost use Rattle.line.specs.Answer.{refusedIn, headOf, wrote, readText, outputsOf, outputsText, onFrame, stepOf, Puts, Gives};
 ghost use Rattle.line.specs.Session.{streamOf, found, flow, Takes, Finishes, Ends, Keeps};
 
 // What a line says.
@@ -115,6 +115,19 @@ pub fn answer_line(
     ensures { λ r. ⌜ Gives (stepOf (lent waves) (before card settings tables) (lent line)) 0 out settings tables r ⌝ }
 {
     answer(settings, tables, waves, card, line, out, 0)
+}
+
+// A line's answer is FF, or a transfer's with a number that is not 0.
+pub fn refused(answer: &[u8]) -> bool
+    ensures { λ r. ⌜ r ≡ refusedIn (lent answer) ⌝ }
+{
+    let number = digits::byte_at(answer, 2);
+    match digits::byte_at(answer, 0) {
+        0xFF => true,
+        0x81 => number != 0,
+        0x82 => number != 0,
+        _ => false,
+    }
 }
 
 // The head of a transfer's answer from place `at` on: its name, the number, the words processed.

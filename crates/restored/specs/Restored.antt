@@ -13,6 +13,7 @@ use Rattle.line.specs.Answer.{headOf}
 use Rattle.line.specs.Session.{linesOf, playedOf, session}
 use Rattle.saved.specs.declared.Span.{Span}
 use Rattle.saved.specs.Saved.{frames, frameText, savedText}
+use Rattle.saved.specs.Laws.{within}
 use Rattle.history.specs.History.{readBack}
 use Rattle.history.specs.Sound.{Sound}
 
@@ -48,7 +49,11 @@ pub record Restored : Type 0 where
 
 -- ---- two cards
 
--- 'exactly when these settings are equal'
+-- they have the same saved settings, which are those that aren't fixed (`SavedAre`)
+abbrev pub SameSaved : State → State → Type 0
+SameSaved x y = (a : ℕ) → within frames a ≡ true → readBack x a ≡ readBack y a
+
+-- 'exactly when these settings are equal'; of reachable cards the fixed ones are equal too
 pub record EqualLines : Type 0 where
-  pub equal : (x y : State) → SameSettings x y → savedText (x .settings) ≡ savedText (y .settings)
+  pub equal : (x y : State) → SameSaved x y → savedText (x .settings) ≡ savedText (y .settings)
   pub only : (x y : State) → Sound x → Sound y → savedText (x .settings) ≡ savedText (y .settings) → SameSettings x y

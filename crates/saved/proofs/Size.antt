@@ -27,7 +27,7 @@ length-text s (x ∷ l) = length-append (lineText s x) (textOf s l) ∙ omega (a
 
 pub size : Size
 unfolding savedText frames framesOf cut spans holding fixedFrom regions block channelRows cardRows
-size = record { lines = refl; bytes = λ s. length-text s frames }
+size = record { order = refl; lines = refl; bytes = λ s. length-text s frames }
 
 -- a buffer that is too short, and one that is not
 module _ (s o : List ℕ) where

@@ -1,6 +1,6 @@
 -- What the saved lines hold, and how long they are.
 use mathlib.Core.Path.{_≡_}
-use mathlib.Core.Bool.{Bool, false, not, _&&_, _||_}
+use mathlib.Core.Bool.{Bool, true, false, not, _&&_, _||_}
 use mathlib.Core.List.{List, [], _∷_}
 use Prim.Native.Nat.{ℕ, _+_}
 use lib.Dec.{leb, ltb}
@@ -22,7 +22,13 @@ within (x ∷ xs) a = inside x a || within xs a
 unfoldable pub SavedAre : Type 0
 SavedAre = (a : ℕ) → within frames a ≡ isSetting (registerOf a) && not (isFixed (registerOf a))
 
+-- 'in address order': each frame begins past the words of the one before
+abbrev pub ascending : ℕ → List Span → Bool
+ascending p [] = true
+ascending p (x ∷ xs) = leb p (x .first) && ascending (x .first + x .count) xs
+
 -- whatever the settings are
 pub record Size : Type 0 where
+  pub order : ascending 0 frames ≡ true
   pub lines : length frames ≡ 173
   pub bytes : (s : List ℕ) → length (savedText s) ≡ 38079

@@ -1,0 +1,4 @@
+pub mod Lines
+pub mod Fixed
+pub mod Played
+pub mod Restored
