@@ -8,7 +8,7 @@ use panel::Plot;
 use panel::Plotted;
 use panel::Reading;
 use transfer::Answer;
-ghost use Prim.Native.Nat.{_+_, _≤_};
+ghost use Prim.Native.Nat.{_+_, _≤_, _<_};
 ghost use lib.ListN.{length};
 
 // After a chunk: the card, how many bytes of the open line are held, and whether to go on.
@@ -399,11 +399,19 @@ fn adler(bytes: &[u8]) -> usize {
     let mut b: usize = 0;
     let mut i: usize = 0;
     while i < bytes.len() {
-        a = (a + (bytes[i] as usize)) % 65521;
-        b = (b + a) % 65521;
+        a = reduced(a + (bytes[i] as usize));
+        b = reduced(b + a);
         i = i + 1;
     }
     b * 65536 + a
+}
+
+// A sum of two, modulo 65,521.
+fn reduced(sum: usize) -> usize
+    requires { ⌜ sum < 131042 ⌝ }
+    ensures { λ r. ⌜ r < 65521 ⌝ }
+{
+    if sum < 65521 { sum } else { sum - 65521 }
 }
 
 // 18: a reset.

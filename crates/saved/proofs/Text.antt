@@ -4,10 +4,10 @@ use mathlib.Core.List.{List, [], _∷_, _++_, append-nil, append-assoc}
 use Prim.Native.Nat.{ℕ, zero, suc, _+_, _-_, _*_, _≤_, _<_, min}
 use native.Mathlib.Numerals.{add-one}
 use native.Mathlib.Omega.{arith}
-use lib.ListN.{length, getD, set, take, length-append}
-use lib.Seq.{sets, take-suc}
+use lib.ListN.{length, getD, set, take, drop, length-append}
+use lib.Seq.{sets, take-suc, drop-cons}
 use Rattle.digits.specs.Digits.{hex2, hex4, hexAll}
-use Rattle.digits.proofs.Digits.{sets-append, then-at, length-hex2, length-hex4, length-hexAll, hexAll-append, hexAll-one}
+use Rattle.digits.proofs.Digits.{then-at, length-hex2, length-hex4, length-hexAll}
 use Rattle.saved.specs.declared.Span.{Span}
 use Rattle.saved.specs.Saved.{span, piece, pieces, cut, framesOf, wordsAt, frameText, lineText, textOf}
 
@@ -18,21 +18,13 @@ unfolding wordsAt
 length-wordsAt s a zero = refl
 length-wordsAt s a (suc n) = ap suc (length-wordsAt s (suc a) n)
 
-words-suc : (s : List ℕ) (a n : ℕ) → wordsAt s a (suc n) ≡ wordsAt s a n ++ getD s (a + n) 0 ∷ []
+-- where the settings reach that far, they are the first n words from place a on
+pub words-taken : (s : List ℕ) (a n : ℕ) → a + n ≤ length s → take n (drop a s) ≡ wordsAt s a n
 unfolding wordsAt
-words-suc s a zero = ap (λ (k : ℕ). getD s k 0 ∷ []) (omega arith)
-words-suc s a (suc n) = ap (λ (l : List ℕ). getD s a 0 ∷ l) (words-suc s (suc a) n ∙ ap (λ (k : ℕ). wordsAt s (suc a) n ++ getD s k 0 ∷ []) (omega arith))
-
--- a turn of the loop that writes them
-pub words-more : (o : List ℕ) (at : ℕ) (s : List ℕ) (a i : ℕ)
-    → sets (sets o at (hexAll (wordsAt s a i))) (at + 4 * i) (hex4 (getD s (a + i) 0)) ≡ sets o at (hexAll (wordsAt s a (i + 1)))
-words-more o at s a i =
-    ap (λ (k : ℕ). sets (sets o at (hexAll (wordsAt s a i))) k (hex4 (getD s (a + i) 0))) (omega (arith, length-hexAll (wordsAt s a i), length-wordsAt s a i))
-    ∙ sym (sets-append o at (hexAll (wordsAt s a i)) (hex4 (getD s (a + i) 0)))
-    ∙ ap (λ (l : List ℕ). sets o at (hexAll (wordsAt s a i) ++ l)) (sym (hexAll-one (getD s (a + i) 0)))
-    ∙ ap (sets o at) (sym (hexAll-append (wordsAt s a i) (getD s (a + i) 0 ∷ [])))
-    ∙ ap (λ (l : List ℕ). sets o at (hexAll l)) (sym (words-suc s a i))
-    ∙ ap (λ (k : ℕ). sets o at (hexAll (wordsAt s a k))) (sym (add-one i))
+words-taken s a zero h = refl
+words-taken s a (suc n) h =
+    let e : drop a s ≡ getD s a 0 ∷ drop (suc a) s = drop-cons s a 0 (omega arith) in
+    ap (take (suc n)) e ∙ ap (λ (l : List ℕ). getD s a 0 ∷ l) (words-taken s (suc a) n (omega arith))
 
 -- ---- lines
 
@@ -101,14 +93,14 @@ span-more s l k d h x m at o p q =
     (then-laid (textOf s (framesOf (take k l))) (textOf s (cut x 0 (pieces x))) at o p q)
 
 -- a frame: 01, the start, the words, LF
-pub line-laid : (s : List ℕ) (first n at : ℕ) (o : List ℕ) {o₁ o₂ o₃ o₄ : List ℕ} → o₁ ≡ sets o at (hex2 1) → o₂ ≡ sets o₁ (at + 2) (hex4 first)
-    → o₃ ≡ sets o₂ (at + 6) (hexAll (wordsAt s first n)) → o₄ ≡ set o₃ (at + 6 + 4 * n) 10 → Laid (lineText s (span first n)) at o o₄ (at + 6 + 4 * n + 1)
+pub line-laid : (s : List ℕ) (first n at : ℕ) (o : List ℕ) → first + n ≤ length s → (l : List ℕ) → l ≡ drop first s → {o₁ o₂ o₃ o₄ : List ℕ} → o₁ ≡ sets o at (hex2 1) → o₂ ≡ sets o₁ (at + 2) (hex4 first)
+    → o₃ ≡ sets o₂ (at + 6) (hexAll (take n l)) → o₄ ≡ set o₃ (at + 6 + 4 * n) 10 → Laid (lineText s (span first n)) at o o₄ (at + 6 + 4 * n + 1)
 unfolding frameText
-line-laid s first n at o {o₁} p q r e =
+line-laid s first n at o h l d {o₁} {o₂} p q r e =
     let w : List ℕ = hexAll (wordsAt s first n) in
     let m : length w ≡ 4 * n = length-hexAll (wordsAt s first n) ∙ ap (λ (k : ℕ). 4 * k) (length-wordsAt s first n) in
-    let h : length (hex4 first ++ w) ≡ 4 + 4 * n = length-append (hex4 first) w ∙ omega (arith, length-hex4 first, m) in
-    let f : length (hex2 1 ++ (hex4 first ++ w)) ≡ 6 + 4 * n = length-append (hex2 1) (hex4 first ++ w) ∙ omega (arith, length-hex2 1, h) in
-    let b = then-at o₁ (at + 2) (hex4 first) w q r (omega (arith, length-hex4 first)) in
+    let g : length (hex4 first ++ w) ≡ 4 + 4 * n = length-append (hex4 first) w ∙ omega (arith, length-hex4 first, m) in
+    let f : length (hex2 1 ++ (hex4 first ++ w)) ≡ 6 + 4 * n = length-append (hex2 1) (hex4 first ++ w) ∙ omega (arith, length-hex2 1, g) in
+    let b = then-at o₁ (at + 2) (hex4 first) w q (r ∙ ap (λ (l : List ℕ). sets o₂ (at + 6) (hexAll l)) (ap (take n) d ∙ words-taken s first n h)) (omega (arith, length-hex4 first)) in
     let a = then-at o at (hex2 1) (hex4 first ++ w) p b (omega (arith, length-hex2 1)) in
     (then-at o at (hex2 1 ++ (hex4 first ++ w)) (10 ∷ []) a e (omega (arith, f)), omega (arith, length-line s (span first n)))

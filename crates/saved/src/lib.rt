@@ -1,11 +1,9 @@
 // A bench saved as lines: the settings as 01 frames of the line program, written into a lent buffer.
 ghost use mathlib.Core.Path.{_≡_};
 ghost use Prim.Native.Nat.{_+_, _^_, _≤_, _<_};
-ghost use lib.ListN.{getD};
-ghost use lib.Seq.{sets};
+ghost use lib.ListN.{length, getD};
 ghost use Rattle.word.specs.Lent.{lent, left};
-ghost use Rattle.digits.specs.Digits.{hexAll};
-ghost use Rattle.saved.specs.Saved.{span, spans, pieces, cut, wordsAt, lineText, textOf, Lays, saveOf, Saves, savedNumber, bytesOf};
+ghost use Rattle.saved.specs.Saved.{span, spans, pieces, cut, lineText, textOf, Lays, saveOf, Saves, savedNumber, bytesOf};
 
 // The answer to a save: the lines were written, so many bytes of them; or the buffer is too short for them.
 pub enum Saved {
@@ -59,7 +57,7 @@ pub fn written(saved: Saved) -> usize
 fn span_at(k: usize) -> Span
     requires { ⌜ k < 54 ⌝ }
     ensures { λ r. ⌜ r ≡ getD spans k (span 0 0) ⌝ }
-    ensures { λ r. ⌜ (r .first < 65536) × (r .count ≤ 1920) ⌝ }
+    ensures { λ r. ⌜ (r .first + r .count ≤ 16960) × (r .count ≤ 1920) ⌝ }
 {
     let rows = ROWS;
     if k < 52 {
@@ -78,8 +76,8 @@ fn span_at(k: usize) -> Span
 }
 
 // The frames of a span from place `at` on, 64 words each but the last; and where they end.
-fn put_span(settings: &[u16; 16960], x: Span, out: &mut [u8], at: usize) -> usize
-    requires { ⌜ (at < 2 ^ 32) × (x .first < 65536) × (x .count ≤ 1920) ⌝ }
+fn put_span(settings: &[u16], x: Span, out: &mut [u8], at: usize) -> usize
+    requires { ⌜ (at < 2 ^ 32) × (x .first + x .count ≤ length (now settings)) × (x .count ≤ 1920) ⌝ }
     ensures { λ r. ⌜ Lays (textOf (lent settings) (cut x 0 (pieces x))) at out r ⌝ }
     ensures { λ r. ⌜ r ≤ at + 7890 ⌝ }
 {
@@ -97,28 +95,16 @@ fn put_span(settings: &[u16; 16960], x: Span, out: &mut [u8], at: usize) -> usiz
 }
 
 // A frame of n words and its LF, from place `at` on; and where it ends.
-fn put_frame(settings: &[u16; 16960], first: usize, n: usize, out: &mut [u8], at: usize) -> usize
-    requires { ⌜ (at < 2 ^ 33) × (first < 131072) × (n ≤ 64) ⌝ }
+fn put_frame(settings: &[u16], first: usize, n: usize, out: &mut [u8], at: usize) -> usize
+    requires { ⌜ (at < 2 ^ 33) × (first + n ≤ length (now settings)) × (n ≤ 64) ⌝ }
     ensures { λ r. ⌜ Lays (lineText (lent settings) (span first n)) at out r ⌝ }
 {
     digits::put2(out, at, 1);
     digits::put4(out, at + 2, first);
-    put_words(settings, first, n, out, at + 6);
+    digits::put_words(out, at + 6, &settings[first..], n as u16);
     let end = at + 6 + 4 * n;
     digits::put(out, end, 10);
     end + 1
-}
-
-// n words of the settings from an address on, four digits each, from place `at` on.
-fn put_words(settings: &[u16], first: usize, n: usize, out: &mut [u8], at: usize)
-    requires { ⌜ (at < 2 ^ 34) × (first < 131072) × (n ≤ 64) ⌝ }
-    ensures { λ _. ⌜ left out ≡ sets (lent out) at (hexAll (wordsAt (lent settings) first n)) ⌝ }
-{
-    let mut i: usize = 0;
-    while i < n {
-        digits::put4(out, at + 4 * i, word::get(settings, first + i) as usize);
-        i = i + 1;
-    }
 }
 
 // First address, words.

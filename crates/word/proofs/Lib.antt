@@ -2,3 +2,4 @@ pub mod Sizes
 pub mod Split
 pub mod Number
 pub mod Every
+pub mod Place

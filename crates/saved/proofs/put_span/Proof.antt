@@ -54,7 +54,7 @@ loop-again c =
     let f = c .before .before in
     let i = f .before .before .before in
     let t = i .before .loop in
-    let a = i .before .before .before .args in
+    let a = i .before .before .before .before .args in
     let s = a .settings .now in
     let n = f .before .before .least .ensures .0 in
     let e = f .put-frame .ensures in
@@ -66,9 +66,10 @@ same-length c = search needs
 returns : tie.Need-returns Inv-loop μ-loop
 returns c =
     let t = c .before .loop in
-    let a = c .before .before .before .args in
+    let s = c .before .before .before .before in
+    let a = s .args in
     let e : t .j ≡ pieces (a .x) = le-antisymm (t .inv .0) (c .loop-test .left) in
-    let b : (a .x .count + 63) / 64 ≤ 30 = omega (arith, c .before .before .before .pre .2) in
+    let b : (a .x .count + 63) / 64 ≤ 30 = omega (arith, s .pre .2) in
     (subst (λ (k : ℕ). Laid (textOf (a .settings .now) (cut (a .x) 0 k)) (a .at) (a .out .now) (t .out) (t .end)) e (t .inv .1), omega (arith, t .inv .2, t .inv .0))
 
 pub put-span-spec : {M : Type 1} → statement M

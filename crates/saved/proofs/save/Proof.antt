@@ -48,7 +48,7 @@ loop-less c = search needs
 loop-again : tie.Need-loop-again Inv-loop μ-loop
 loop-again c =
     let f = c .before .before in
-    let i = f .before .before .before in
+    let i = f .before .before .before .before in
     let t = i .before .loop in
     let a = i .before .before .before .before .args in
     let x = f .before .before .span-at in

@@ -1,6 +1,6 @@
 -- `saved::span_at` meets its contract. Assumes nothing.
 use mathlib.Core.Path.{sym, _∙_, subst}
-use Prim.Native.Nat.{_≤_, _<_}
+use Prim.Native.Nat.{_+_, _≤_}
 use native.Mathlib.Nat.{lt-of-lt-of-le}
 use lib.Dec.{lit≤}
 use Rattle.map.specs.Map.{channelRows, cardRows}
@@ -51,7 +51,7 @@ returns c =
     let s = c .before .before .before .before in
     let k = s .args .k in
     let e = of-channel k (c .before .before .before .if1 .taken) ∙ is-span k (s .pre) in
-    (e, subst (λ (x : Span). (x .first < 65536) × (x .count ≤ 1920)) (sym e) (in-bounds k (s .pre)))
+    (e, subst (λ (x : Span). (x .first + x .count ≤ 16960) × (x .count ≤ 1920)) (sym e) (in-bounds k (s .pre)))
 
 returns-2 : tie.Need-returns-2
 unfolding holding fixedFrom channelRows cardRows
@@ -59,7 +59,7 @@ returns-2 c =
     let s = c .before .before .before .before in
     let k = s .args .k in
     let e = of-card k (c .before .before .before .if1 .left) ∙ is-span k (s .pre) in
-    (e, subst (λ (x : Span). (x .first < 65536) × (x .count ≤ 1920)) (sym e) (in-bounds k (s .pre)))
+    (e, subst (λ (x : Span). (x .first + x .count ≤ 16960) × (x .count ≤ 1920)) (sym e) (in-bounds k (s .pre)))
 
 pub span-at-spec : {M : Type 1} → statement M
 span-at-spec =
