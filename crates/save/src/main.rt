@@ -104,6 +104,8 @@ fn play(
     let mut tally = t.tally;
     let mut i: usize = 0;
     while i < bytes.len() {
+        let at = i;
+        i = i + 1;
         let s = line::feed(
             settings,
             tables,
@@ -112,9 +114,8 @@ fn play(
             &mut answer,
             k,
             held,
-            &bytes[i..i + 1],
+            &bytes[at..i],
         );
-        i = i + 1;
         k = s.card;
         held = s.held;
         tally = tell(tally, &answer, s.end);
