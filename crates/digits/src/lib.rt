@@ -170,7 +170,24 @@ fn digit(n: usize) -> u8
 }
 
 // The digits of the numbers below 16.
-const DIGITS: [u8; 16] = [48, 49, 50, 51, 52, 53, 54, 55, 56, 57, 65, 66, 67, 68, 69, 70];
+const DIGITS: [u8; 16] = [
+    48,
+    49,
+    50,
+    51,
+    52,
+    53,
+    54,
+    55,
+    56,
+    57,
+    65,
+    66,
+    67,
+    68,
+    69,
+    70,
+];
 
 // The byte at a place.
 fn get(s: &[u8], i: usize) -> u8

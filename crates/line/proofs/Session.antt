@@ -151,17 +151,17 @@ module _ (w : List ℕ) (room : ℕ) (r : longest ≤ room) where
       let e = ended-text w t p H in
       let r = ih (ended w t) [] (ended-holds w t p H) in (
         r .0
-        ∙ ap (λ (y : List ℕ). y ++ answersOf w (ended w t .state) (linesFrom [] s)) (e .0)
-        ∙ ap (λ (z : State). (t .text ++ (stepOf w (t .state) p .text ++ 10 ∷ [])) ++ answersOf w z (linesFrom [] s)) (e .1)
-        ∙ append-assoc (t .text) (stepOf w (t .state) p .text ++ 10 ∷ []) (answersOf w (stepOf w (t .state) p .state) (linesFrom [] s)),
+            ∙ ap (λ (y : List ℕ). y ++ answersOf w (ended w t .state) (linesFrom [] s)) (e .0)
+            ∙ ap (λ (z : State). (t .text ++ (stepOf w (t .state) p .text ++ 10 ∷ [])) ++ answersOf w z (linesFrom [] s)) (e .1)
+            ∙ append-assoc (t .text) (stepOf w (t .state) p .text ++ 10 ∷ []) (answersOf w (stepOf w (t .state) p .state) (linesFrom [] s)),
         r .1 ∙ ap (λ (z : State). playedOf w z (linesFrom [] s)) (e .1),
       )
   fed-by s ih false b t p H =
       let r = ih (kept t b) (p ++ b ∷ []) (kept-holds (t .state) (t .line) (t .held) (t .text) p b H) in
       let e = kept-state (t .state) (t .line) (t .held) (t .text) b in (
         r .0
-        ∙ ap (λ (y : List ℕ). y ++ answersOf w (kept t b .state) (linesFrom (p ++ b ∷ []) s)) (kept-text (t .state) (t .line) (t .held) (t .text) b)
-        ∙ ap (λ (z : State). t .text ++ answersOf w z (linesFrom (p ++ b ∷ []) s)) e,
+            ∙ ap (λ (y : List ℕ). y ++ answersOf w (kept t b .state) (linesFrom (p ++ b ∷ []) s)) (kept-text (t .state) (t .line) (t .held) (t .text) b)
+            ∙ ap (λ (z : State). t .text ++ answersOf w z (linesFrom (p ++ b ∷ []) s)) e,
         r .1 ∙ ap (λ (z : State). playedOf w z (linesFrom (p ++ b ∷ []) s)) e,
       )
 

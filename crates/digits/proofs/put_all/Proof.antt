@@ -98,8 +98,8 @@ loop-again c =
     let w = getD (a .words .now) (t .i) 0 in (
       search needs,
       four-stores (t .out) (a .at + 4 * t .i) w
-      ∙ ap (λ (l : List ℕ). sets l (a .at + 4 * t .i) (hex4 w)) (t .inv .1)
-      ∙ hexAll-more (a .out .now) (a .at) (a .words .now) (t .i) (omega (arith, s .pre .1)),
+          ∙ ap (λ (l : List ℕ). sets l (a .at + 4 * t .i) (hex4 w)) (t .inv .1)
+          ∙ hexAll-more (a .out .now) (a .at) (a .words .now) (t .i) (omega (arith, s .pre .1)),
       search needs,
     )
 
