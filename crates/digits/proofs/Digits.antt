@@ -2,15 +2,14 @@
 use mathlib.Core.Path.{_≡_, _∙_, ap, sym, refl}
 use mathlib.Core.Bool.{Bool, true, false}
 use mathlib.Core.List.{List, [], _∷_, _++_, append-nil, append-assoc}
-use Prim.Native.Nat.{ℕ, zero, suc, _+_, _*_, _/_, _%_, _≤_, _<_, min}
+use Prim.Native.Nat.{ℕ, zero, suc, _+_, _*_, _≤_, _<_, min}
 use native.Mathlib.Numerals.{add-one}
 use native.Mathlib.Omega.{arith}
 use borrow.Author.Tests.{ltb-true, ltb-false, le-leb, lt-leb}
-use lib.Dec.{ltb, eqb, eqb→eq}
+use lib.Dec.{ltb}
 use lib.ListN.{length, set, getD, take, drop, length-append, length-set, List·getD-eq-default}
 use lib.Seq.{set-out, sets, sets-eq, take-suc, take-all, take-at, length-take-le}
-use Rattle.word.proofs.Place.{at-place}
-use Rattle.digits.specs.Digits.{inside, byteAt, wordAt, wordsFrom, digitOf, hex2, hex4, hexAll}
+use Rattle.digits.specs.Digits.{inside, byteAt, wordAt, wordsFrom, hex2, hex4, hexAll}
 
 -- ---- a byte among the digits
 
@@ -98,12 +97,12 @@ unfolding hexAll
 length-hexAll [] = refl
 length-hexAll (w ∷ a) = length-append (hex4 w) (hexAll a) ∙ omega (arith, length-hex4 w, length-hexAll a)
 
-hexAll-append : (a b : List ℕ) → hexAll (a ++ b) ≡ hexAll a ++ hexAll b
+pub hexAll-append : (a b : List ℕ) → hexAll (a ++ b) ≡ hexAll a ++ hexAll b
 unfolding hexAll
 hexAll-append [] b = refl
 hexAll-append (w ∷ a) b = ap (λ (l : List ℕ). hex4 w ++ l) (hexAll-append a b) ∙ sym (append-assoc (hex4 w) (hexAll a) (hexAll b))
 
-hexAll-one : (w : ℕ) → hexAll (w ∷ []) ≡ hex4 w
+pub hexAll-one : (w : ℕ) → hexAll (w ∷ []) ≡ hex4 w
 unfolding hexAll
 hexAll-one w = append-nil (hex4 w)
 
@@ -118,21 +117,3 @@ hexAll-more o at ws i h =
     ∙ ap (λ (l : List ℕ). sets o at l) (sym (hexAll-append (take i ws) (getD ws i 0 ∷ [])))
     ∙ ap (λ (l : List ℕ). sets o at (hexAll l)) (sym (take-suc ws i 0 h))
     ∙ ap (λ (k : ℕ). sets o at (hexAll (take k ws))) (sym (add-one i))
-
--- ---- the table of digits
-
-abbrev pub table : List ℕ
-table = 48 ∷ 49 ∷ 50 ∷ 51 ∷ 52 ∷ 53 ∷ 54 ∷ 55 ∷ 56 ∷ 57 ∷ 65 ∷ 66 ∷ 67 ∷ 68 ∷ 69 ∷ 70 ∷ []
-
-looked-up : (n : ℕ) → n < 16 → getD table n 0 ≡ digitOf n
-looked-up n h = eqb→eq (getD table n 0) (digitOf n) (at-place (λ k x. eqb x (digitOf k)) 0 table tt n h)
-
--- a word's four digits, looked up and stored one after the other
-pub four-stores : (o : List ℕ) (p w : ℕ)
-    → set (set (set (set o p (getD table (w / 256 / 16 % 16) 0)) (p + 1) (getD table (w / 256 % 16) 0)) (p + 2) (getD table (w / 16 % 16) 0)) (p + 3) (getD table (w % 16) 0) ≡ sets o p (hex4 w)
-unfolding hex4 hex2
-four-stores o p w =
-    let e1 : p + 1 ≡ suc p = omega arith in
-    let e2 : p + 2 ≡ suc (suc p) = omega arith in
-    let e3 : p + 3 ≡ suc (suc (suc p)) = omega arith in
-    rw (looked-up (w / 256 / 16 % 16) (omega arith), looked-up (w / 256 % 16) (omega arith), looked-up (w / 16 % 16) (omega arith), looked-up (w % 16) (omega arith), e1, e2, e3)

@@ -1,7 +1,7 @@
 // Hexadecimal digits: numbers read from lent bytes, and written into them. Past the end of lent bytes a byte is read as 0, and nothing is stored.
 ghost use mathlib.Core.Path.{_≡_};
-ghost use Prim.Native.Nat.{_+_, _*_, _≤_, _<_};
-ghost use lib.ListN.{length, getD, set, take};
+ghost use Prim.Native.Nat.{_<_};
+ghost use lib.ListN.{getD, set, take};
 ghost use lib.Seq.{sets};
 ghost use Rattle.word.specs.Lent.{lent, left};
 ghost use Rattle.digits.specs.Digits.{isDigit, valueOf, allDigits, byteAt, wordAt, wordsFrom, digitOf, hex2, hex4, hexAll};
@@ -96,39 +96,9 @@ pub fn put_words(out: &mut [u8], at: usize, words: &[u16], n: u16)
         return;
     }
     let count = word::least(n as usize, words.len());
-    if out.len() - at < 4 * count {
-        put_some(out, at, words, count);
-    } else {
-        put_all(out, at, words, count);
-    }
-}
-
-// The first n words as far as the slice goes.
-fn put_some(out: &mut [u8], at: usize, words: &[u16], n: usize)
-    requires { ⌜ (at < length (now out)) × (n ≤ length (now words)) × (n < 65536) ⌝ }
-    ensures { λ _. ⌜ left out ≡ sets (lent out) at (hexAll (take n (lent words))) ⌝ }
-{
     let mut i: usize = 0;
-    while i < n {
+    while i < count {
         put4(out, at + 4 * i, word::get(words, i) as usize);
-        i = i + 1;
-    }
-}
-
-// The same where there is room for all of them, so that no store asks for it.
-fn put_all(out: &mut [u8], at: usize, words: &[u16], n: usize)
-    requires { ⌜ (at + 4 * n ≤ length (now out)) × (n ≤ length (now words)) ⌝ }
-    ensures { λ _. ⌜ left out ≡ sets (lent out) at (hexAll (take n (lent words))) ⌝ }
-{
-    let digits = DIGITS;
-    let mut i: usize = 0;
-    while i < n {
-        let w = words[i] as usize;
-        let p = at + 4 * i;
-        out[p] = digits[w / 256 / 16 % 16];
-        out[p + 1] = digits[w / 256 % 16];
-        out[p + 2] = digits[w / 16 % 16];
-        out[p + 3] = digits[w % 16];
         i = i + 1;
     }
 }
@@ -168,26 +138,6 @@ fn digit(n: usize) -> u8
         (55 + n) as u8
     }
 }
-
-// The digits of the numbers below 16.
-const DIGITS: [u8; 16] = [
-    48,
-    49,
-    50,
-    51,
-    52,
-    53,
-    54,
-    55,
-    56,
-    57,
-    65,
-    66,
-    67,
-    68,
-    69,
-    70,
-];
 
 // The byte at a place.
 fn get(s: &[u8], i: usize) -> u8

@@ -12,22 +12,16 @@ use Rattle.map.specs.Map.{channelRows, cardRows, block, regions}
 use Rattle.saved.specs.declared.Span.{Span}
 use Rattle.saved.specs.declared.Saved.the-variants.{Lines, TooShort}
 use Rattle.saved.specs.Saved.{holding, fixedFrom, spans, cut, framesOf, frames, lineText, textOf, savedText, kept, saveOf}
-use Rattle.saved.specs.Laws.{Size}
-use Rattle.saved.proofs.Text.{length-line}
-
--- how many bytes frames take: 01, the start, the words and LF
-abbrev bytesIn : List Span → ℕ
-bytesIn [] = 0
-bytesIn (x ∷ xs) = 7 + 4 * x .count + bytesIn xs
-
-length-text : (s : List ℕ) (l : List Span) → length (textOf s l) ≡ bytesIn l
-unfolding textOf
-length-text s [] = refl
-length-text s (x ∷ l) = length-append (lineText s x) (textOf s l) ∙ omega (arith, length-line s x, length-text s l)
+use Rattle.saved.specs.Laws.{bytesIn, Size}
+use Rattle.saved.proofs.Text.{length-text}
 
 pub size : Size
 unfolding savedText frames framesOf cut spans holding fixedFrom regions block channelRows cardRows
 size = record { order = refl; lines = refl; bytes = λ s. length-text s frames }
+
+pub all-bytes : bytesIn (framesOf spans) ≡ 38079
+unfolding framesOf cut spans holding fixedFrom regions block channelRows cardRows
+all-bytes = refl
 
 -- a buffer that is too short, and one that is not
 module _ (s o : List ℕ) where

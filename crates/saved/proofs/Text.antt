@@ -1,15 +1,20 @@
 -- The lines of frames: how long they are, and what a turn of each loop that writes them adds. Assumes nothing.
 use mathlib.Core.Path.{_≡_, _∙_, ap, sym, refl, subst}
 use mathlib.Core.List.{List, [], _∷_, _++_, append-nil, append-assoc}
-use Prim.Native.Nat.{ℕ, zero, suc, _+_, _-_, _*_, _≤_, _<_, min}
+use mathlib.Core.Logic.{⊎-elim}
+use Prim.Native.Nat.{ℕ, zero, suc, _+_, _-_, _*_, _/_, _%_, _≤_, _<_, min}
 use native.Mathlib.Numerals.{add-one}
+use native.Mathlib.Nat.{le-of-suc-le-suc, not-suc-le-zero, eq-or-lt-of-le}
 use native.Mathlib.Omega.{arith}
-use lib.ListN.{length, getD, set, take, drop, length-append}
-use lib.Seq.{sets, take-suc, drop-cons}
-use Rattle.digits.specs.Digits.{hex2, hex4, hexAll}
-use Rattle.digits.proofs.Digits.{then-at, length-hex2, length-hex4, length-hexAll}
+use lib.Dec.{eqb, eqb→eq}
+use lib.ListN.{length, getD, set, take, drop, length-append, take-append-drop}
+use lib.Seq.{sets, take-suc}
+use Rattle.word.proofs.Place.{at-place}
+use Rattle.digits.specs.Digits.{digitOf, hex2, hex4, hexAll}
+use Rattle.digits.proofs.Digits.{sets-append, then-at, length-hex2, length-hex4, length-hexAll, hexAll-append, hexAll-one}
 use Rattle.saved.specs.declared.Span.{Span}
 use Rattle.saved.specs.Saved.{span, piece, pieces, cut, framesOf, wordsAt, frameText, lineText, textOf}
+use Rattle.saved.specs.Laws.{bytesIn}
 
 -- ---- words
 
@@ -18,13 +23,38 @@ unfolding wordsAt
 length-wordsAt s a zero = refl
 length-wordsAt s a (suc n) = ap suc (length-wordsAt s (suc a) n)
 
--- where the settings reach that far, they are the first n words from place a on
-pub words-taken : (s : List ℕ) (a n : ℕ) → a + n ≤ length s → take n (drop a s) ≡ wordsAt s a n
+words-suc : (s : List ℕ) (a n : ℕ) → wordsAt s a (suc n) ≡ wordsAt s a n ++ getD s (a + n) 0 ∷ []
 unfolding wordsAt
-words-taken s a zero h = refl
-words-taken s a (suc n) h =
-    let e : drop a s ≡ getD s a 0 ∷ drop (suc a) s = drop-cons s a 0 (omega arith) in
-    ap (take (suc n)) e ∙ ap (λ (l : List ℕ). getD s a 0 ∷ l) (words-taken s (suc a) n (omega arith))
+words-suc s a zero = ap (λ (k : ℕ). getD s k 0 ∷ []) (omega arith)
+words-suc s a (suc n) = ap (λ (l : List ℕ). getD s a 0 ∷ l) (words-suc s (suc a) n ∙ ap (λ (k : ℕ). wordsAt s (suc a) n ++ getD s k 0 ∷ []) (omega arith))
+
+-- a turn of the loop that writes them
+pub words-more : (o : List ℕ) (at : ℕ) (s : List ℕ) (a i : ℕ)
+    → sets (sets o at (hexAll (wordsAt s a i))) (at + 4 * i) (hex4 (getD s (a + i) 0)) ≡ sets o at (hexAll (wordsAt s a (i + 1)))
+words-more o at s a i =
+    ap (λ (k : ℕ). sets (sets o at (hexAll (wordsAt s a i))) k (hex4 (getD s (a + i) 0))) (omega (arith, length-hexAll (wordsAt s a i), length-wordsAt s a i))
+    ∙ sym (sets-append o at (hexAll (wordsAt s a i)) (hex4 (getD s (a + i) 0)))
+    ∙ ap (λ (l : List ℕ). sets o at (hexAll (wordsAt s a i) ++ l)) (sym (hexAll-one (getD s (a + i) 0)))
+    ∙ ap (sets o at) (sym (hexAll-append (wordsAt s a i) (getD s (a + i) 0 ∷ [])))
+    ∙ ap (λ (l : List ℕ). sets o at (hexAll l)) (sym (words-suc s a i))
+    ∙ ap (λ (k : ℕ). sets o at (hexAll (wordsAt s a k))) (sym (add-one i))
+
+-- the digits of the numbers below 16, as the code has them
+abbrev table : List ℕ
+table = 48 ∷ 49 ∷ 50 ∷ 51 ∷ 52 ∷ 53 ∷ 54 ∷ 55 ∷ 56 ∷ 57 ∷ 65 ∷ 66 ∷ 67 ∷ 68 ∷ 69 ∷ 70 ∷ []
+
+looked-up : (n : ℕ) → n < 16 → getD table n 0 ≡ digitOf n
+looked-up n h = eqb→eq (getD table n 0) (digitOf n) (at-place (λ k x. eqb x (digitOf k)) 0 table tt n h)
+
+-- a word's four digits, looked up and stored one after the other
+pub four-stores : (o : List ℕ) (p w : ℕ)
+    → set (set (set (set o p (getD table (w / 256 / 16 % 16) 0)) (p + 1) (getD table (w / 256 % 16) 0)) (p + 2) (getD table (w / 16 % 16) 0)) (p + 3) (getD table (w % 16) 0) ≡ sets o p (hex4 w)
+unfolding hex4 hex2
+four-stores o p w =
+    let e1 : p + 1 ≡ suc p = omega arith in
+    let e2 : p + 2 ≡ suc (suc p) = omega arith in
+    let e3 : p + 3 ≡ suc (suc (suc p)) = omega arith in
+    rw (looked-up (w / 256 / 16 % 16) (omega arith), looked-up (w / 256 % 16) (omega arith), looked-up (w / 16 % 16) (omega arith), looked-up (w % 16) (omega arith), e1, e2, e3)
 
 -- ---- lines
 
@@ -43,6 +73,15 @@ text-append s (x ∷ l) m = ap (λ (t : List ℕ). lineText s x ++ t) (text-appe
 text-one : (s : List ℕ) (x : Span) → textOf s (x ∷ []) ≡ lineText s x
 unfolding textOf
 text-one s x = append-nil (lineText s x)
+
+pub length-text : (s : List ℕ) (l : List Span) → length (textOf s l) ≡ bytesIn l
+unfolding textOf
+length-text s [] = refl
+length-text s (x ∷ l) = length-append (lineText s x) (textOf s l) ∙ omega (arith, length-line s x, length-text s l)
+
+bytes-append : (l m : List Span) → bytesIn (l ++ m) ≡ bytesIn l + bytesIn m
+bytes-append [] m = omega arith
+bytes-append (x ∷ l) m = omega (arith, bytes-append l m)
 
 -- ---- the frames of a span, and of several
 
@@ -64,6 +103,31 @@ frames-append (x ∷ l) m =
 frames-one : (x : Span) → framesOf (x ∷ []) ≡ cut x 0 (pieces x)
 unfolding framesOf
 frames-one x = append-nil (cut x 0 (pieces x))
+
+-- ---- room: where there is room for all frames of a span, there is for frame j of them; and so for span k of several
+
+pub frame-room : (x : Span) (j n : ℕ) → j < n → bytesIn (cut x 0 j) + (7 + 4 * min 64 (x .count - 64 * j)) ≤ bytesIn (cut x 0 n)
+frame-room x j zero h = absurd (not-suc-le-zero h)
+frame-room x j (suc n) h = ⊎-elim last (λ l. earlier (frame-room x j n l)) (eq-or-lt-of-le (le-of-suc-le-suc h))
+  where
+    more : bytesIn (cut x 0 (suc n)) ≡ bytesIn (cut x 0 n) + (7 + 4 * min 64 (x .count - 64 * n))
+    more =
+        let e : 0 + n ≡ n = omega arith in
+        ap bytesIn (cut-suc x 0 n) ∙ bytes-append (cut x 0 n) (piece x (0 + n) ∷ []) ∙ rw e (omega arith)
+
+    last : j ≡ n → bytesIn (cut x 0 j) + (7 + 4 * min 64 (x .count - 64 * j)) ≤ bytesIn (cut x 0 (suc n))
+    last e = rw e (omega (arith, more))
+
+    earlier : bytesIn (cut x 0 j) + (7 + 4 * min 64 (x .count - 64 * j)) ≤ bytesIn (cut x 0 n) → bytesIn (cut x 0 j) + (7 + 4 * min 64 (x .count - 64 * j)) ≤ bytesIn (cut x 0 (suc n))
+    earlier l = omega (arith, more)
+
+pub span-room : (l : List Span) (k : ℕ) (d : Span) → k < length l → bytesIn (framesOf (take k l)) + bytesIn (cut (getD l k d) 0 (pieces (getD l k d))) ≤ bytesIn (framesOf l)
+span-room l k d h =
+    let x : Span = getD l k d in
+    let e : framesOf l ≡ framesOf (take (suc k) l) ++ framesOf (drop (suc k) l) = ap framesOf (sym (take-append-drop (suc k) l)) ∙ frames-append (take (suc k) l) (drop (suc k) l) in
+    let f : framesOf (take (suc k) l) ≡ framesOf (take k l) ++ cut x 0 (pieces x) =
+    ap framesOf (take-suc l k d h) ∙ frames-append (take k l) (x ∷ []) ∙ ap (λ (m : List Span). framesOf (take k l) ++ m) (frames-one x) in
+    omega (arith, ap bytesIn e, bytes-append (framesOf (take (suc k) l)) (framesOf (drop (suc k) l)), ap bytesIn f, bytes-append (framesOf (take k l)) (cut x 0 (pieces x)))
 
 -- ---- a buffer: the text x stands in it from `at` on, and ends at `to`
 
@@ -93,14 +157,14 @@ span-more s l k d h x m at o p q =
     (then-laid (textOf s (framesOf (take k l))) (textOf s (cut x 0 (pieces x))) at o p q)
 
 -- a frame: 01, the start, the words, LF
-pub line-laid : (s : List ℕ) (first n at : ℕ) (o : List ℕ) → first + n ≤ length s → (l : List ℕ) → l ≡ drop first s → {o₁ o₂ o₃ o₄ : List ℕ} → o₁ ≡ sets o at (hex2 1) → o₂ ≡ sets o₁ (at + 2) (hex4 first)
-    → o₃ ≡ sets o₂ (at + 6) (hexAll (take n l)) → o₄ ≡ set o₃ (at + 6 + 4 * n) 10 → Laid (lineText s (span first n)) at o o₄ (at + 6 + 4 * n + 1)
+pub line-laid : (s : List ℕ) (first n at : ℕ) (o : List ℕ) {o₁ o₂ o₃ o₄ : List ℕ} → o₁ ≡ sets o at (hex2 1) → o₂ ≡ sets o₁ (at + 2) (hex4 first)
+    → o₃ ≡ sets o₂ (at + 6) (hexAll (wordsAt s first n)) → o₄ ≡ set o₃ (at + 6 + 4 * n) 10 → Laid (lineText s (span first n)) at o o₄ (at + 6 + 4 * n + 1)
 unfolding frameText
-line-laid s first n at o h l d {o₁} {o₂} p q r e =
+line-laid s first n at o {o₁} p q r e =
     let w : List ℕ = hexAll (wordsAt s first n) in
     let m : length w ≡ 4 * n = length-hexAll (wordsAt s first n) ∙ ap (λ (k : ℕ). 4 * k) (length-wordsAt s first n) in
     let g : length (hex4 first ++ w) ≡ 4 + 4 * n = length-append (hex4 first) w ∙ omega (arith, length-hex4 first, m) in
     let f : length (hex2 1 ++ (hex4 first ++ w)) ≡ 6 + 4 * n = length-append (hex2 1) (hex4 first ++ w) ∙ omega (arith, length-hex2 1, g) in
-    let b = then-at o₁ (at + 2) (hex4 first) w q (r ∙ ap (λ (l : List ℕ). sets o₂ (at + 6) (hexAll l)) (ap (take n) d ∙ words-taken s first n h)) (omega (arith, length-hex4 first)) in
+    let b = then-at o₁ (at + 2) (hex4 first) w q r (omega (arith, length-hex4 first)) in
     let a = then-at o at (hex2 1) (hex4 first ++ w) p b (omega (arith, length-hex2 1)) in
     (then-at o at (hex2 1 ++ (hex4 first ++ w)) (10 ∷ []) a e (omega (arith, f)), omega (arith, length-line s (span first n)))

@@ -2,7 +2,7 @@
 use mathlib.Core.Path.{_≡_}
 use mathlib.Core.Bool.{Bool, true, false, not, _&&_, _||_}
 use mathlib.Core.List.{List, [], _∷_}
-use Prim.Native.Nat.{ℕ, _+_}
+use Prim.Native.Nat.{ℕ, _+_, _*_}
 use lib.Dec.{leb, ltb}
 use lib.ListN.{length}
 use Rattle.map.specs.Map.{registerOf}
@@ -26,6 +26,11 @@ SavedAre = (a : ℕ) → within frames a ≡ isSetting (registerOf a) && not (is
 abbrev pub ascending : ℕ → List Span → Bool
 ascending p [] = true
 ascending p (x ∷ xs) = leb p (x .first) && ascending (x .first + x .count) xs
+
+-- how many bytes the lines of frames take: 01, the start, the words and LF
+abbrev pub bytesIn : List Span → ℕ
+bytesIn [] = 0
+bytesIn (x ∷ xs) = 7 + 4 * x .count + bytesIn xs
 
 -- whatever the settings are
 pub record Size : Type 0 where

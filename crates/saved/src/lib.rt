@@ -1,9 +1,12 @@
 // A bench saved as lines: the settings as 01 frames of the line program, written into a lent buffer.
 ghost use mathlib.Core.Path.{_≡_};
-ghost use Prim.Native.Nat.{_+_, _^_, _≤_, _<_};
+ghost use Prim.Native.Nat.{_+_, _*_, _^_, _≤_, _<_};
 ghost use lib.ListN.{length, getD};
+ghost use lib.Seq.{sets};
 ghost use Rattle.word.specs.Lent.{lent, left};
-ghost use Rattle.saved.specs.Saved.{span, spans, pieces, cut, lineText, textOf, Lays, saveOf, Saves, savedNumber, bytesOf};
+ghost use Rattle.digits.specs.Digits.{hexAll};
+ghost use Rattle.saved.specs.Laws.{bytesIn};
+ghost use Rattle.saved.specs.Saved.{span, spans, pieces, cut, wordsAt, lineText, textOf, Lays, saveOf, Saves, savedNumber, bytesOf};
 
 // The answer to a save: the lines were written, so many bytes of them; or the buffer is too short for them.
 pub enum Saved {
@@ -77,7 +80,7 @@ fn span_at(k: usize) -> Span
 
 // The frames of a span from place `at` on, 64 words each but the last; and where they end.
 fn put_span(settings: &[u16], x: Span, out: &mut [u8], at: usize) -> usize
-    requires { ⌜ (at < 2 ^ 32) × (x .first + x .count ≤ length (now settings)) × (x .count ≤ 1920) ⌝ }
+    requires { ⌜ (x .first + x .count ≤ length (now settings)) × (at + bytesIn (cut x 0 (pieces x)) ≤ length (now out)) × (at < 2 ^ 31) × (x .count ≤ 1920) ⌝ }
     ensures { λ r. ⌜ Lays (textOf (lent settings) (cut x 0 (pieces x))) at out r ⌝ }
     ensures { λ r. ⌜ r ≤ at + 7890 ⌝ }
 {
@@ -96,16 +99,54 @@ fn put_span(settings: &[u16], x: Span, out: &mut [u8], at: usize) -> usize
 
 // A frame of n words and its LF, from place `at` on; and where it ends.
 fn put_frame(settings: &[u16], first: usize, n: usize, out: &mut [u8], at: usize) -> usize
-    requires { ⌜ (at < 2 ^ 33) × (first + n ≤ length (now settings)) × (n ≤ 64) ⌝ }
+    requires { ⌜ (first + n ≤ length (now settings)) × (at + 7 + 4 * n ≤ length (now out)) × (at < 2 ^ 32) × (n ≤ 64) ⌝ }
     ensures { λ r. ⌜ Lays (lineText (lent settings) (span first n)) at out r ⌝ }
 {
     digits::put2(out, at, 1);
     digits::put4(out, at + 2, first);
-    digits::put_words(out, at + 6, &settings[first..], n as u16);
+    put_words(settings, first, n, out, at + 6);
     let end = at + 6 + 4 * n;
     digits::put(out, end, 10);
     end + 1
 }
+
+// n words of the settings from an address on, four digits each, from place `at` on. There is room for them, so no store asks for it.
+fn put_words(settings: &[u16], first: usize, n: usize, out: &mut [u8], at: usize)
+    requires { ⌜ (first + n ≤ length (now settings)) × (at + 4 * n ≤ length (now out)) ⌝ }
+    ensures { λ _. ⌜ left out ≡ sets (lent out) at (hexAll (wordsAt (lent settings) first n)) ⌝ }
+{
+    let table = DIGITS;
+    let mut i: usize = 0;
+    while i < n {
+        let w = settings[first + i] as usize;
+        let p = at + 4 * i;
+        out[p] = table[w / 256 / 16 % 16];
+        out[p + 1] = table[w / 256 % 16];
+        out[p + 2] = table[w / 16 % 16];
+        out[p + 3] = table[w % 16];
+        i = i + 1;
+    }
+}
+
+// The digits of the numbers below 16.
+const DIGITS: [u8; 16] = [
+    48,
+    49,
+    50,
+    51,
+    52,
+    53,
+    54,
+    55,
+    56,
+    57,
+    65,
+    66,
+    67,
+    68,
+    69,
+    70,
+];
 
 // First address, words.
 struct Row(u16, u16);

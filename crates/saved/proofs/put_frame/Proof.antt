@@ -1,8 +1,4 @@
 -- `saved::put_frame` meets its contract. Assumes nothing.
-use native.Mathlib.Omega.{arith}
-use Prim.Native.Nat.{_-_}
-use lib.ListN.{length, drop, length-drop}
-use lib.Seq.{take-all}
 use Rattle.saved.proofs.Text.{line-laid}
 use borrow.Author.Needs.{needs}
 use Rattle.saved.proofs.put_frame.Statement.{statement}
@@ -19,21 +15,6 @@ put4-requires c κs = search needs
 
 add-put-words : tie.Need-add-put-words
 add-put-words c = search needs
-
-mul-put-words : tie.Need-mul-put-words
-mul-put-words c = search needs
-
-sub-put-words : tie.Need-sub-put-words
-sub-put-words c = search needs
-
-part-put-words-start : tie.Need-part-put-words-start
-part-put-words-start c = search needs
-
-part-put-words-end : tie.Need-part-put-words-end
-part-put-words-end c = search needs
-
-cast-put-words : tie.Need-cast-put-words
-cast-put-words c = search needs
 
 put-words-requires : tie.Need-put-words-requires
 put-words-requires c κs = search needs
@@ -60,12 +41,10 @@ returns : tie.Need-returns
 returns c =
     let l = c .before .before in
     let w = l .before .before .before .before in
-    let f = w .before .before .before .before .before in
+    let f = w .before .before .before .before in
     let n = f .before .before .before .before in
-    let s = n .before .before .before .before in
-    let a = s .args in
-    let d = take-all (length (a .settings .now) - a .first) (drop (a .first) (a .settings .now)) (omega (arith, length-drop (a .first) (a .settings .now))) in
-    line-laid (a .settings .now) (a .first) (a .n) (a .at) (a .out .now) (s .pre .1) _ d (n .put2 .ensures) (f .put4 .ensures) (w .put-words .ensures) (l .put .ensures)
+    let a = n .before .before .before .before .args in
+    line-laid (a .settings .now) (a .first) (a .n) (a .at) (a .out .now) (n .put2 .ensures) (f .put4 .ensures) (w .put-words .ensures) (l .put .ensures)
 
 pub put-frame-spec : {M : Type 1} → statement M
 put-frame-spec =
@@ -75,11 +54,6 @@ put-frame-spec =
     add-put4
     put4-requires
     add-put-words
-    mul-put-words
-    sub-put-words
-    part-put-words-start
-    part-put-words-end
-    cast-put-words
     put-words-requires
     add-end
     mul-end

@@ -7,7 +7,7 @@ use native.Mathlib.Nat.{le-antisymm}
 use native.Mathlib.Omega.{arith}
 use lib.ListN.{length}
 use Rattle.saved.specs.Saved.{span, pieces, cut, textOf}
-use Rattle.saved.proofs.Text.{Laid, frame-more, frame-short}
+use Rattle.saved.proofs.Text.{Laid, length-text, frame-room, frame-more, frame-short}
 use Rattle.saved.proofs.put_span.Statement.{statement}
 use Rattle.saved.proofs.put_span.Tie as tie
 
@@ -41,7 +41,15 @@ add-put-frame : tie.Need-add-put-frame Inv-loop μ-loop
 add-put-frame c = search needs
 
 put-frame-requires : tie.Need-put-frame-requires Inv-loop μ-loop
-put-frame-requires c κs = search needs
+put-frame-requires c κs =
+    let i = c .before .before in
+    let t = i .before .loop in
+    let s = i .before .before .before .before in
+    let x = s .args .x in
+    let n = c .before .least .ensures .0 in
+    let r = frame-room x (t .j) (pieces x) (i .loop-test .taken) in
+    let e = length-text (s .args .settings .now) (cut x 0 (t .j)) in
+    (omega (arith, n, s .pre .0), omega (arith, n, r, e, t .inv .1 .1, t .inv .3, s .pre .1), omega (arith, t .inv .2, t .inv .0, s .pre .2, s .pre .3), omega (arith, n))
 
 add-j : tie.Need-add-j Inv-loop μ-loop
 add-j c = search needs
@@ -69,7 +77,7 @@ returns c =
     let s = c .before .before .before .before in
     let a = s .args in
     let e : t .j ≡ pieces (a .x) = le-antisymm (t .inv .0) (c .loop-test .left) in
-    let b : (a .x .count + 63) / 64 ≤ 30 = omega (arith, s .pre .2) in
+    let b : (a .x .count + 63) / 64 ≤ 30 = omega (arith, s .pre .3) in
     (subst (λ (k : ℕ). Laid (textOf (a .settings .now) (cut (a .x) 0 k)) (a .at) (a .out .now) (t .out) (t .end)) e (t .inv .1), omega (arith, t .inv .2, t .inv .0))
 
 pub put-span-spec : {M : Type 1} → statement M

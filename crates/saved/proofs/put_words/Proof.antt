@@ -1,4 +1,4 @@
--- `digits::put_all` meets its contract. The loop's invariant: the words before place i are written, and the length is as it was.
+-- `saved::put_words` meets its contract. The loop's invariant: the words before place i are written, and the length is as it was.
 -- Assumes nothing.
 use borrow.Author.Needs.{needs}
 use mathlib.Core.Path.{_≡_, refl, ap, _∙_}
@@ -6,26 +6,30 @@ use mathlib.Core.List.{List}
 use Prim.Native.Nat.{ℕ, _+_, _-_, _*_, _≤_, _<_}
 use native.Mathlib.Nat.{le-antisymm}
 use native.Mathlib.Omega.{arith}
-use lib.ListN.{length, take, getD, length-set}
+use lib.ListN.{length, getD, length-set}
 use lib.Seq.{sets}
 use Rattle.digits.specs.Digits.{hex4, hexAll}
-use Rattle.digits.proofs.Digits.{hexAll-more, four-stores}
-use Rattle.digits.proofs.put_all.Statement.{statement}
-use Rattle.digits.proofs.put_all.Tie as tie
+use Rattle.saved.specs.Saved.{wordsAt}
+use Rattle.saved.proofs.Text.{words-more, four-stores}
+use Rattle.saved.proofs.put_words.Statement.{statement}
+use Rattle.saved.proofs.put_words.Tie as tie
 
 abbrev Inv-loop : tie.InvT-loop
-Inv-loop out₀ at words n digits i₀ out i = (i ≤ n) × (out ≡ sets out₀ at (hexAll (take i words))) × (length out ≡ length out₀)
+Inv-loop settings first n out₀ at table i₀ out i = (i ≤ n) × (out ≡ sets out₀ at (hexAll (wordsAt settings first i))) × (length out ≡ length out₀)
 
 abbrev μ-loop : tie.MeasureT-loop
-μ-loop out₀ at words n digits i₀ out i = n - i
+μ-loop settings first n out₀ at table i₀ out i = n - i
 
 loop-holds : tie.Need-loop-holds Inv-loop μ-loop
-unfolding hexAll
+unfolding hexAll wordsAt
 loop-holds c = (search needs, refl, refl)
 
 -- there is room for four digits more
 room : (c : tie.In-loop Inv-loop μ-loop) → c .before .before .args .at + 4 * c .before .loop .i + 3 < length (c .before .loop .out)
-room c = omega (arith, c .before .loop .inv .2, c .before .before .pre .0, c .loop-test .taken)
+room c = omega (arith, c .before .loop .inv .2, c .before .before .pre .1, c .loop-test .taken)
+
+add-w : tie.Need-add-w Inv-loop μ-loop
+add-w c = search needs
 
 mul-w : tie.Need-mul-w Inv-loop μ-loop
 mul-w c = search needs
@@ -34,7 +38,7 @@ shared-slice-read-w : tie.Need-shared-slice-read-w Inv-loop μ-loop
 shared-slice-read-w c = search needs
 
 cast-w : tie.Need-cast-w Inv-loop μ-loop
-cast-w c = omega (arith, c .shared-slice-known .given (c .before .before .loop .i))
+cast-w c = omega (arith, c .shared-slice-known .given (c .before .before .before .args .first + c .before .before .loop .i))
 
 mul-p : tie.Need-mul-p Inv-loop μ-loop
 mul-p c = search needs
@@ -93,13 +97,12 @@ loop-less c = search needs
 loop-again : tie.Need-loop-again Inv-loop μ-loop
 loop-again c =
     let t = c .before .before .loop in
-    let s = c .before .before .before in
-    let a = s .args in
-    let w = getD (a .words .now) (t .i) 0 in (
+    let a = c .before .before .before .args in
+    let w = getD (a .settings .now) (a .first + t .i) 0 in (
       search needs,
       four-stores (t .out) (a .at + 4 * t .i) w
           ∙ ap (λ (l : List ℕ). sets l (a .at + 4 * t .i) (hex4 w)) (t .inv .1)
-          ∙ hexAll-more (a .out .now) (a .at) (a .words .now) (t .i) (omega (arith, s .pre .1)),
+          ∙ words-more (a .out .now) (a .at) (a .settings .now) (a .first) (t .i),
       search needs,
     )
 
@@ -110,15 +113,16 @@ returns : tie.Need-returns Inv-loop μ-loop
 returns c =
     let t = c .before .loop in
     let a = c .before .before .args in
-    t .inv .1 ∙ ap (λ (k : ℕ). sets (a .out .now) (a .at) (hexAll (take k (a .words .now)))) (le-antisymm (t .inv .0) (c .loop-test .left))
+    t .inv .1 ∙ ap (λ (k : ℕ). sets (a .out .now) (a .at) (hexAll (wordsAt (a .settings .now) (a .first) k))) (le-antisymm (t .inv .0) (c .loop-test .left))
 
-pub put-all-spec : {M : Type 1} → statement M
-put-all-spec =
+pub put-words-spec : {M : Type 1} → statement M
+put-words-spec =
     tie.close
     (tie.spec
     Inv-loop
     μ-loop
     loop-holds
+    add-w
     mul-w
     shared-slice-read-w
     cast-w
