@@ -221,7 +221,7 @@ mod tests {
         assert_eq!(lines[2], "save: line 3 is answered 81060002");
         assert_eq!(lines[3], "save: line 4 is answered 81060000");
         assert_eq!(lines[4], "save: line 5 is answered 820400010000");
-        let all = "save: 5 of 6 lines refused; all others were played and are saved; \
+        let all = "save: 5 of 6 lines refused; the rest was played and is saved; \
             the guide has the numbers";
         assert_eq!(lines[5..], [all]);
         // The words before the refused one are done.
@@ -233,7 +233,7 @@ mod tests {
     fn one_refused_line() {
         let (_, told) = saved_of(b"030001\n18\n030001\n");
         let all = "save: line 2 is answered FF\nsave: 1 of 3 lines refused; \
-            all others were played and are saved; the guide has the numbers\n";
+            the rest was played and is saved; the guide has the numbers\n";
         assert_eq!(told, all);
     }
 
@@ -241,10 +241,11 @@ mod tests {
     fn nothing_is_saved_after_a_failed_read() {
         let script = [Ok(&b"0300"[..]), Err(ErrorKind::Other.into())];
         let mut out = Vec::new();
-        assert!(save(Script(VecDeque::from(script)), &mut out, Full).is_err());
+        let mut told = Vec::new();
+        assert!(save(Script(VecDeque::from(script)), &mut out, &mut told).is_err());
         assert!(save(&b"\n"[..], &mut out, Full).is_err());
         assert_eq!(out, b"");
-        assert!(save(&b""[..], Full, Full).is_err());
+        assert!(save(&b""[..], Full, &mut told).is_err());
     }
 
     #[test]

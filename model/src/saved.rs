@@ -60,7 +60,7 @@ pub fn length() -> usize {
     parts().map(|part| part.length()).sum()
 }
 
-/// Saves the card's settings at the begin of the buffer; the bytes written, or
+/// Saves the card's settings at the front of the buffer; the bytes written, or
 /// 10 if it is shorter than the lines need, and then it is unchanged.
 pub fn save(card: &Card, buffer: &mut [u8]) -> Result<usize, Number> {
     let length = length();

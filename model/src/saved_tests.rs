@@ -190,8 +190,8 @@ fn round_trips_at_both_ends_of_every_region() {
     check_round_trip(&all);
 }
 
-/// Words that are all different, the events among them on the last levels, and
-/// a ramp that runs.
+/// Words that differ wherever their region lets them, the events among them on
+/// the last levels, and a ramp that runs.
 #[test]
 fn a_round_trip_of_a_full_bench() {
     let mut card = Card::reset();

@@ -8,9 +8,7 @@ use lib.Dec.{eqb}
 use lib.ListN.{take, replicate}
 use Rattle.digits.specs.Digits.{byteAt, hex2, hex4, hexAll}
 use Rattle.digits.proofs.Back.{hex2-read, byte-behind}
-use Rattle.card.specs.declared.Card.{Card}
 use Rattle.card.specs.Card.{State}
-use Rattle.card.specs.Tick.{tickWith, ticks}
 use Rattle.transfer.specs.declared.Why.the-variants as W
 use Rattle.transfer.specs.declared.Answer.{Answer}
 use Rattle.transfer.specs.declared.Answer.the-variants.{Done, BadCount, NoRegion, NoAccess, Beyond, Refused}
@@ -18,7 +16,7 @@ use Rattle.transfer.specs.Transfer.{Filled, numberOf, processedOf, writeOf, rea
 use Rattle.line.specs.declared.Frame.{Frame}
 use Rattle.line.specs.declared.Frame.the-variants.{Write, Read, Ticks, Event, Bad}
 use Rattle.line.specs.Frame.{wordsOf, frameOf}
-use Rattle.line.specs.Answer.{headOf, outputsOf, outputsText, onFrame, stepOf, refusedFrame, refusedIn}
+use Rattle.line.specs.Answer.{headOf, outputsText, onFrame, stepOf, refusedFrame, refusedIn}
 
 number-small : (a : Answer) → numberOf a < 256
 number-small (Done n) = omega arith

@@ -18,6 +18,7 @@ use Rattle.line.proofs.Frames.{frame-named}
 use Rattle.saved.specs.declared.Span.{Span}
 use Rattle.saved.specs.Saved.{wordsAt, frames, frameText, textOf, savedText}
 use Rattle.saved.proofs.Text.{length-wordsAt}
+use Rattle.saved.proofs.Size.{size}
 use Rattle.restored.specs.Restored.{LinesAre}
 
 -- ---- the lines of the text
@@ -43,10 +44,17 @@ lines-of s (x ∷ l) =
     ∙ line-first (frameText s x) [] (textOf s l) (text-digits 0x01 (x .first) (wordsAt s (x .first) (x .count)))
     ∙ ap (λ (m : List (List ℕ)). frameText s x ∷ m) (lines-of s l)
 
--- ONE LINE FOR EACH FRAME
+one-each : (s : List ℕ) → linesOf (savedText s) ≡ map (frameText s) frames
+unfolding savedText
+one-each s = lines-of s frames
+
+many-lines : (s : List ℕ) (l : List Span) → length (map (frameText s) l) ≡ length l
+many-lines s [] = refl
+many-lines s (x ∷ l) = ap suc (many-lines s l)
+
+-- ONE LINE FOR EACH FRAME, 173 in all
 pub lines-are : LinesAre
-unfolding LinesAre savedText
-lines-are s = lines-of s frames
+lines-are = record { each = one-each; many = λ s. ap length (one-each s) ∙ many-lines s frames ∙ size .lines }
 
 -- ---- a line, read back
 

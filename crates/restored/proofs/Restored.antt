@@ -23,7 +23,7 @@ use Rattle.saved.proofs.Covered.{is-inside, inside-is, saved-are, all-good}
 use Rattle.history.specs.Sound.{Words, Sound}
 use Rattle.history.proofs.Settings.{setting-reads}
 use Rattle.history.proofs.Words.{reset-word, reset-length, reset-words}
-use Rattle.restored.specs.Restored.{answeredAll, SameSettings, SameSaved, fedTo, LinesAre, Restored, EqualLines}
+use Rattle.restored.specs.Restored.{answeredAll, SameSettings, SameSaved, fedTo, Restored, EqualLines}
 use Rattle.restored.proofs.Fixed.{fixed-same}
 use Rattle.restored.proofs.Lines.{lines-are, words-are}
 use Rattle.restored.proofs.Played.{Partly, below, laid, laid-kept, laid-new, all-played}
@@ -99,11 +99,10 @@ module _ (x y : State) where
       (λ a e. let i = saved-setting a e in sym (setting-reads a i x) ∙ h a e ∙ setting-reads a i y)
 
   lines-settings : Sound x → Sound y → savedText (x .settings) ≡ savedText (y .settings) → SameSettings x y
-  unfolding LinesAre
   lines-settings v w e =
       same-words x y
       (λ a i. by-kind _ a i (fixed-same (x .settings) (y .settings) (v .settings) (w .settings) a)
-      (lines-same (x .settings) (y .settings) (v .settings) (w .settings) frames a (sym (lines-are (x .settings)) ∙ ap linesOf e ∙ lines-are (y .settings))))
+      (lines-same (x .settings) (y .settings) (v .settings) (w .settings) frames a (sym (lines-are .each (x .settings)) ∙ ap linesOf e ∙ lines-are .each (y .settings))))
 
 -- TWO CARDS GIVE EQUAL LINES EXACTLY WHEN THEIR SETTINGS ARE EQUAL
 pub equal-lines : EqualLines
@@ -124,8 +123,8 @@ module _ (st : State) (v : Sound st) (s l w : List ℕ) (h : length s ≡ 16960)
   left = laid (st .settings) (settingsReset s) frames
 
   played : (fedTo s l w (savedText (st .settings)) ≡ state cardReset left (tablesReset l)) × (session s l w (savedText (st .settings)) ≡ answeredAll frames)
-  unfolding LinesAre session left
-  played = rw (lines-are (st .settings)) (all-played (st .settings) (v .settings) cardReset (tablesReset l) (wavesReset w) (settingsReset s) frames (reset-partly s (st .settings) h) all-good)
+  unfolding session left
+  played = rw (lines-are .each (st .settings)) (all-played (st .settings) (v .settings) cardReset (tablesReset l) (wavesReset w) (settingsReset s) frames (reset-partly s (st .settings) h) all-good)
 
   left-same : (a : ℕ) → isSetting (registerOf a) ≡ true → word left a ≡ word (st .settings) a
   unfolding left

@@ -32,9 +32,10 @@ SameSettings x y = (a : ℕ) → isSetting (registerOf a) ≡ true → readBack 
 abbrev pub fedTo : List ℕ → List ℕ → List ℕ → List ℕ → State
 fedTo s l w text = playedOf (wavesReset w) (resetOf s l) (linesOf text)
 
--- the lines of the text, whatever the settings are: one for each frame
-unfoldable pub LinesAre : Type 0
-LinesAre = (s : List ℕ) → linesOf (savedText s) ≡ map (frameText s) frames
+-- the lines of the text, whatever the settings are: one for each frame, 173 in all
+pub record LinesAre : Type 0 where
+  pub each : (s : List ℕ) → linesOf (savedText s) ≡ map (frameText s) frames
+  pub many : (s : List ℕ) → length (linesOf (savedText s)) ≡ 173
 
 -- of any reachable card, and a reset card whose settings have the 16,960 words that every call has by type
 pub record Restored : Type 0 where

@@ -4,8 +4,6 @@ use card::Card;
 use libc::STDERR_FILENO;
 use libc::STDIN_FILENO;
 use libc::STDOUT_FILENO;
-ghost use Prim.Native.Nat.{_≤_};
-ghost use lib.ListN.{length};
 
 // How many lines were played, and how many of them were not answered 0.
 struct Tally {
@@ -178,7 +176,7 @@ fn sum_up(tally: Tally) {
     io::print_decimal(STDERR_FILENO, tally.refused);
     complain(b" of ");
     io::print_decimal(STDERR_FILENO, tally.lines);
-    complain(b" lines refused; all others were played and are saved; the guide has the numbers\n");
+    complain(b" lines refused; the rest was played and is saved; the guide has the numbers\n");
 }
 
 // One more.

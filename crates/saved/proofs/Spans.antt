@@ -17,15 +17,15 @@ use Rattle.saved.specs.Saved.{holding, fixedFrom, span, spanOf, spans}
 abbrev coded : Span → code.Row
 coded x = record { 0 = x .first; 1 = x .count }
 
-abbrev pub rows : List code.Row
+abbrev rows : List code.Row
 rows = map coded (map spanOf (holding channelRows) ++ map spanOf (holding cardRows))
 
-abbrev pub rowAt : ℕ → code.Row
+abbrev rowAt : ℕ → code.Row
 rowAt k = getD rows k (record { 0 = 0; 1 = 0 })
 
 -- the span that the code makes of its table
-abbrev pub codeSpan : ℕ → Span
-codeSpan k = cond (ltb k 52) (span (k / 13 * 0x1000 + rowAt (k % 13) .0) (rowAt (k % 13) .1)) (span (rowAt (k - 39) .0) (rowAt (k - 39) .1))
+abbrev codeSpan : ℕ → Span
+codeSpan k = cond (ltb k 52) (span (k / 13 * 0x1000 + rowAt (k % 13) .0) (rowAt (k % 13) .1)) (span (rowAt (k - 52 + 13) .0) (rowAt (k - 52 + 13) .1))
 
 -- it is span k; its words have their place among the settings, and no span is longer than the ramp tables
 abbrev right : ℕ → Span → Bool
@@ -69,5 +69,5 @@ module _ (k : ℕ) (h : k < 54) where
 pub of-channel : (k : ℕ) → k < 52 → span (k / 13 * 0x1000 + rowAt (k % 13) .0) (rowAt (k % 13) .1) ≡ codeSpan k
 of-channel k h = rw (lt-ltb k 52 h)
 
-pub of-card : (k : ℕ) → 52 ≤ k → span (rowAt (k - 39) .0) (rowAt (k - 39) .1) ≡ codeSpan k
+pub of-card : (k : ℕ) → 52 ≤ k → span (rowAt (k - 52 + 13) .0) (rowAt (k - 52 + 13) .1) ≡ codeSpan k
 of-card k h = rw (le-ltb k 52 h)

@@ -13,7 +13,7 @@ use Rattle.word.proofs.Place.{at-place}
 use Rattle.digits.specs.Digits.{digitOf, hex2, hex4, hexAll}
 use Rattle.digits.proofs.Digits.{sets-append, then-at, length-hex2, length-hex4, length-hexAll, hexAll-append, hexAll-one}
 use Rattle.saved.specs.declared.Span.{Span}
-use Rattle.saved.specs.Saved.{span, piece, pieces, cut, framesOf, wordsAt, frameText, lineText, textOf}
+use Rattle.saved.specs.Saved.{span, piece, pieces, cut, framesOf, wordsAt, frameText, lineText, textOf, Laid}
 use Rattle.saved.specs.Laws.{bytesIn}
 
 -- ---- words
@@ -58,7 +58,7 @@ four-stores o p w =
 
 -- ---- lines
 
-pub length-line : (s : List ℕ) (x : Span) → length (lineText s x) ≡ 7 + 4 * x .count
+length-line : (s : List ℕ) (x : Span) → length (lineText s x) ≡ 7 + 4 * x .count
 unfolding frameText hex2 hex4
 length-line s x =
     let e : length (hexAll (wordsAt s (x .first) (x .count)) ++ 10 ∷ []) ≡ 4 * x .count + 1 =
@@ -91,7 +91,7 @@ cut-suc x j zero = ap (λ (k : ℕ). piece x k ∷ []) (omega arith)
 cut-suc x j (suc n) = ap (λ (l : List Span). piece x j ∷ l) (cut-suc x (suc j) n ∙ ap (λ (k : ℕ). cut x (suc j) n ++ piece x k ∷ []) (omega arith))
 
 -- a turn of the loop that writes the frames of a span: frame j comes after the j before it
-pub cut-more : (x : Span) (j : ℕ) → cut x 0 (j + 1) ≡ cut x 0 j ++ piece x j ∷ []
+cut-more : (x : Span) (j : ℕ) → cut x 0 (j + 1) ≡ cut x 0 j ++ piece x j ∷ []
 cut-more x j = ap (cut x 0) (add-one j) ∙ cut-suc x 0 j ∙ ap (λ (k : ℕ). cut x 0 j ++ piece x k ∷ []) (omega arith)
 
 frames-append : (l m : List Span) → framesOf (l ++ m) ≡ framesOf l ++ framesOf m
@@ -129,10 +129,7 @@ span-room l k d h =
     ap framesOf (take-suc l k d h) ∙ frames-append (take k l) (x ∷ []) ∙ ap (λ (m : List Span). framesOf (take k l) ++ m) (frames-one x) in
     omega (arith, ap bytesIn e, bytes-append (framesOf (take (suc k) l)) (framesOf (drop (suc k) l)), ap bytesIn f, bytes-append (framesOf (take k l)) (cut x 0 (pieces x)))
 
--- ---- a buffer: the text x stands in it from `at` on, and ends at `to`
-
-abbrev pub Laid : List ℕ → ℕ → List ℕ → List ℕ → ℕ → Type 0
-Laid x at before after to = (after ≡ sets before at x) × (to ≡ at + length x)
+-- ---- texts in a buffer
 
 -- one text after another
 then-laid : (a b : List ℕ) (at : ℕ) (o : List ℕ) {o₁ o₂ : List ℕ} {e to : ℕ} → Laid a at o o₁ e → Laid b e o₁ o₂ to → Laid (a ++ b) at o o₂ to

@@ -16,16 +16,17 @@ use Rattle.saved.specs.declared.Saved.the-variants.{Lines, TooShort}
 
 -- ---- what is saved
 
--- 'in address order': the regions that hold settings. 'It covers tables, maps, factors, offsets, delays, sine regions, A01, A00, the trigger
--- map and 0x4200; never outputs, counters or triggers.'
+-- 'in address order': the regions that hold settings, 'never outputs, counters or triggers'. The words of a region are all of one kind, so
+-- the first tells it, on channel 0 as on any
 unfoldable pub holding : List Row → List Row
 holding [] = []
 holding (r ∷ rs) = cond (isSetting (r .meaning 0 0)) (r ∷ holding rs) (holding rs)
 
--- how many words a region has, and how many of its n words from offset o on come before the first that isn't fixed
+-- how many words a region has
 abbrev pub size : Row → ℕ
 size r = suc (r .region .last) - r .region .first
 
+-- of its n words from offset o on, how many come before the first that isn't fixed; on every channel the same
 unfoldable pub fixedFrom : Row → ℕ → ℕ → ℕ
 fixedFrom r o zero = 0
 fixedFrom r o (suc n) = cond (isFixed (r .meaning 0 o)) (suc (fixedFrom r (suc o) n)) 0
@@ -103,8 +104,12 @@ unfoldable pub saveOf : List ℕ → List ℕ → Kept
 saveOf s o = cond (ltb (length o) (length (savedText s))) (kept o TooShort) (kept (sets o 0 (savedText s)) (Lines (length (savedText s))))
 
 -- the text x stands in the buffer from `at` on, and where it ends
+abbrev pub Laid : List ℕ → ℕ → List ℕ → List ℕ → ℕ → Type 0
+Laid x at before after to = (after ≡ sets before at x) × (to ≡ at + length x)
+
+-- the same of a call: the buffer as it is lent and left
 abbrev pub Lays : List ℕ → ℕ → Lent → ℕ → Type 0
-Lays x at out to = (left out ≡ sets (lent out) at x) × (to ≡ at + length x)
+Lays x at out to = Laid x at (lent out) (left out) to
 
 -- the answer handed back, and the buffer left
 abbrev pub Saves : Kept → Saved → Lent → Type 0

@@ -24,12 +24,12 @@ pub struct Span {
 pub fn save(settings: &[u16; 16960], out: &mut [u8]) -> Saved
     ensures { λ r. ⌜ Saves (saveOf (lent settings) (lent out)) r out ⌝ }
 {
-    if out.len() < 38079 {
+    if out.len() < LENGTH {
         return Saved::TooShort;
     }
     let mut at: usize = 0;
     let mut k: usize = 0;
-    while k < 54 {
+    while k < SPANS {
         at = put_span(settings, span_at(k), out, at);
         k = k + 1;
     }
@@ -63,14 +63,14 @@ fn span_at(k: usize) -> Span
     ensures { λ r. ⌜ (r .first + r .count ≤ 16960) × (r .count ≤ 1920) ⌝ }
 {
     let rows = ROWS;
-    if k < 52 {
-        let r = rows[k % 13];
+    if k < OF_CHANNELS {
+        let r = rows[k % OF_CHANNEL];
         Span {
-            first: k / 13 * 0x1000 + (r.0 as usize),
+            first: k / OF_CHANNEL * 0x1000 + (r.0 as usize),
             count: r.1 as usize,
         }
     } else {
-        let r = rows[k - 39];
+        let r = rows[k - OF_CHANNELS + OF_CHANNEL];
         Span {
             first: r.0 as usize,
             count: r.1 as usize,
@@ -147,6 +147,15 @@ const DIGITS: [u8; 16] = [
     69,
     70,
 ];
+
+// How many bytes all lines are; how many spans they save, how many of these the channels have, and each.
+const LENGTH: usize = 38079;
+
+const SPANS: usize = 54;
+
+const OF_CHANNELS: usize = 52;
+
+const OF_CHANNEL: usize = 13;
 
 // First address, words.
 struct Row(u16, u16);

@@ -1,13 +1,12 @@
 -- `saved::put_span` meets its contract. The loop's invariant: the frames before frame j stand in the buffer. Assumes nothing.
 use borrow.Author.Needs.{needs}
-use mathlib.Core.Path.{_≡_, refl, ap, _∙_, subst}
-use mathlib.Core.List.{List}
-use Prim.Native.Nat.{ℕ, _+_, _-_, _*_, _/_, _≤_, min}
+use mathlib.Core.Path.{_≡_, refl, _∙_, subst}
+use Prim.Native.Nat.{ℕ, _+_, _-_, _*_, _/_, _≤_}
 use native.Mathlib.Nat.{le-antisymm}
 use native.Mathlib.Omega.{arith}
 use lib.ListN.{length}
-use Rattle.saved.specs.Saved.{span, pieces, cut, textOf}
-use Rattle.saved.proofs.Text.{Laid, length-text, frame-room, frame-more, frame-short}
+use Rattle.saved.specs.Saved.{span, pieces, cut, textOf, Laid}
+use Rattle.saved.proofs.Text.{length-text, frame-room, frame-more, frame-short}
 use Rattle.saved.proofs.put_span.Statement.{statement}
 use Rattle.saved.proofs.put_span.Tie as tie
 

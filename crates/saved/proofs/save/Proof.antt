@@ -2,17 +2,17 @@
 use borrow.Author.Needs.{needs}
 use mathlib.Core.Path.{_≡_, refl, ap, sym, _∙_, subst}
 use mathlib.Core.List.{List}
-use Prim.Native.Nat.{ℕ, _+_, _-_, _*_, _≤_, _<_}
+use Prim.Native.Nat.{_-_, _*_, _≤_, _<_}
 use native.Mathlib.Nat.{le-antisymm}
 use native.Mathlib.Omega.{arith}
-use lib.ListN.{length, getD, take}
+use lib.ListN.{length, take}
 use lib.Seq.{take-all}
 use Rattle.saved.specs.declared.Span.{Span}
 use Rattle.saved.specs.declared.Saved.the-variants.{Lines}
-use Rattle.saved.specs.Saved.{span, spans, pieces, cut, framesOf, frames, textOf, savedText, Kept}
+use Rattle.saved.specs.Saved.{span, spans, pieces, cut, framesOf, frames, textOf, savedText, Laid, Kept}
 use Rattle.saved.specs.Laws.{bytesIn}
-use Rattle.saved.proofs.Text.{Laid, length-text, span-room, span-more}
-use Rattle.saved.proofs.Size.{all-bytes, too-short, has-room}
+use Rattle.saved.proofs.Text.{length-text, span-room, span-more}
+use Rattle.saved.proofs.Size.{size, too-short, has-room}
 use Rattle.saved.proofs.Spans.{many}
 use Rattle.saved.proofs.save.Statement.{statement}
 use Rattle.saved.proofs.save.Tie as tie
@@ -38,6 +38,7 @@ span-at-requires : tie.Need-span-at-requires Inv-loop μ-loop
 span-at-requires c κs = search needs
 
 put-span-requires : tie.Need-put-span-requires Inv-loop μ-loop
+unfolding frames
 put-span-requires c κs =
     let x = c .before .span-at .ensures in
     let i = c .before .before .before in
@@ -47,7 +48,7 @@ put-span-requires c κs =
     let r = span-room spans (t .k) (span 0 0) (rw many (i .loop-test .taken)) in
     let e = length-text s (framesOf (take (t .k) spans)) in
     let q = ap (λ (y : Span). bytesIn (cut y 0 (pieces y))) (x .0) in
-    (search needs, omega (arith, q, r, e, all-bytes, t .inv .1 .1, t .inv .3, o), omega (arith, t .inv .2, i .loop-test .taken), x .1 .1)
+    (search needs, omega (arith, q, r, e, size .bytes, t .inv .1 .1, t .inv .3, o), omega (arith, t .inv .2, i .loop-test .taken), x .1 .1)
 
 add-k : tie.Need-add-k Inv-loop μ-loop
 add-k c = search needs

@@ -1,8 +1,6 @@
 -- `saved::span_at` meets its contract. Assumes nothing.
 use mathlib.Core.Path.{sym, _∙_, subst}
 use Prim.Native.Nat.{_+_, _≤_}
-use native.Mathlib.Nat.{lt-of-lt-of-le}
-use lib.Dec.{lit≤}
 use Rattle.map.specs.Map.{channelRows, cardRows}
 use Rattle.saved.specs.declared.Span.{Span}
 use Rattle.saved.specs.Saved.{holding, fixedFrom}
@@ -29,8 +27,8 @@ add-t29 c = search needs
 cast-t30 : tie.Need-cast-t30
 cast-t30 c = search needs
 
-sub-r : tie.Need-sub-r
-sub-r c = search needs
+add-r : tie.Need-add-r
+add-r c = search needs
 
 mul-r-2 : tie.Need-mul-r-2
 mul-r-2 c = search needs
@@ -71,7 +69,7 @@ span-at-spec =
     cast-t28
     add-t29
     cast-t30
-    sub-r
+    add-r
     mul-r-2
     array-copy-out-r-2
     cast-t31
