@@ -6,6 +6,7 @@ use crate::card::Card;
 use crate::line::{self, field, fields, put_transfer};
 use crate::map::Number;
 use crate::panel::{self, Plotted, Reading};
+use crate::profile::{self, Break};
 use crate::saved;
 
 /// The longest slice that a frame lends to a transfer.
@@ -42,6 +43,8 @@ pub enum Frame {
     Save {
         buffer: Vec<u8>,
     },
+    /// Whether the bench passes the profile.
+    Check,
     Reset,
     Plot {
         channel: usize,
@@ -64,6 +67,7 @@ impl Frame {
             0x11 => Frame::parse_write(fields(rest, 4, &mut [0; 2 + MAX_SLICE])?),
             0x12 => Frame::parse_read(fields(rest, 4, &mut [0; 4])?),
             0x15 => Frame::parse_save(fields(rest, 4, &mut [0; 2])?),
+            0x16 => rest.is_empty().then_some(Frame::Check),
             0x18 => rest.is_empty().then_some(Frame::Reset),
             0x1B => Frame::parse_plot(fields(rest, 2, &mut [0; 3])?),
             0x1C => Frame::parse_panel(fields(rest, 4, &mut [0; 2])?),
@@ -159,6 +163,7 @@ impl Frame {
                 let saved = saved::save(card, &mut buffer);
                 put_saved(out, saved, &buffer)
             }
+            Frame::Check => put_checked(out, profile::check(card)),
             Frame::Reset => {
                 *card = Card::reset();
                 out.write_all(b"98\n")
@@ -181,6 +186,14 @@ fn put_saved(out: &mut impl Write, saved: Result<usize, Number>, buffer: &[u8]) 
     };
     let (number, sum) = (number as u8, adler32(buffer));
     writeln!(out, "95{number:02X}{written:08X}{sum:08X}")
+}
+
+/// The answer to a check: 00, or 01 with the first channel and level.
+fn put_checked(out: &mut impl Write, broken: Option<Break>) -> io::Result<()> {
+    match broken {
+        None => out.write_all(b"9600\n"),
+        Some(Break { channel, level, .. }) => writeln!(out, "9601{channel:02X}{level:02X}"),
+    }
 }
 
 /// The Adler-32 check sum: one plus all bytes, and the sum of these sums on
@@ -487,16 +500,32 @@ mod tests {
     }
 
     #[test]
+    fn a_check_names_the_first_channel_and_level_and_changes_nothing() {
+        assert_eq!(answers("16"), "9600\n");
+        // Channel 2 breaks at level 17, then channel 1 at level 31.
+        let two = "01208040000000\n0128110001\n0128510001\n0128610200\n16\n";
+        let one = "01178040000000\n01181F000F\n01185F001F\n01187F0200\n16\n";
+        let given = answers(&format!("{two}{one}15000094BF\n16\n15000094BF\n"));
+        let given: Vec<&str> = given.lines().collect();
+        assert_eq!(
+            (given[4], given[9], given[11]),
+            ("96010211", "9601011F", "9601011F")
+        );
+        assert_eq!(given[10], given[12]);
+    }
+
+    #[test]
     fn damaged_lines_answer_ff() {
-        let damaged = "10 100 10000 100000 1000000 10000G 100G 100g 10000000001 11 12 13 14 15 16 17 19 1A 1B 1C 1D 1E 1F 180 1800 110080 1100800 \
+        let damaged = "10 100 10000 100000 1000000 10000G 100G 100g 10000000001 11 12 13 14 15 17 19 1A 1B 1C 1D 1E 1F 180 1800 110080 1100800 \
             11008000010 110080000100070 1100800001000G 1208600001000155A 1208600001000155AA0 \
             1208600001000155aa 12086000010001 1B0000 1B00000 1B0000000 1B000000000 1b000000 \
             1C080000 1C0800000 1C080000000 1C0800000000 1c08000000 1C08000G00 91 98 9B00 14000A 1400000001 \
             1500 150000 15000094 150000094 15000094B 15000094BF0 15000094BF0000 1500010001 15FFFFFFFF \
-            15000094bf 15000094BG 95 1700 1701 1900 1A00 90 9000";
+            15000094bf 15000094BG 95 160 16F 1600 160000 16G 1601 9600 96 1700 1701 1900 1A00 90 9000";
         for line in damaged.split_whitespace() {
             assert_eq!(answers(line), "FF\n", "{line}");
         }
         assert_eq!(answers("18\r\n18 \n 18\n1 8\n18"), "FF\nFF\nFF\nFF\n98\n");
+        assert_eq!(answers("16\r\n16 \n 16\n1 6\n16"), "FF\nFF\nFF\nFF\n9600\n");
     }
 }

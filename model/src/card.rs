@@ -1,6 +1,6 @@
 //! The four-channel ramp card, stepped plainly one microsecond at a time.
 
-use crate::channel::{Active, Channel, Look, Trigger, LEVELS, TABLE_WORDS};
+use crate::channel::{Active, Channel, Look, Ramp, Trigger, LEVELS, TABLE_WORDS};
 use crate::map::{Access, Answer, Number, Place, Region};
 use crate::sine::Wave;
 
@@ -58,6 +58,17 @@ impl Card {
     /// The last trigger, if no channel has loaded since.
     pub fn pending(&self) -> Option<Trigger> {
         self.active.pending
+    }
+
+    /// The ramp of a channel's level as the settings stand.
+    pub fn ramp(&self, channel: usize, level: usize) -> Ramp {
+        self.channels[channel].ramp(level)
+    }
+
+    /// The words of the table that a ramp of the channel plays.
+    pub fn table_of(&self, channel: usize, ramp: Ramp) -> &[u16] {
+        let table = self.table(channel, usize::from(ramp.table));
+        table.expect("a ramp map holds 0 to 15")
     }
 
     /// The words of a table as they stand in the settings, if it is there.

@@ -77,13 +77,32 @@ pub enum Phase {
     Running(Run),
 }
 
+/// The number of a ramp's table, and what it is scaled and moved by.
+#[derive(Clone, Copy, Debug, PartialEq, Eq)]
+pub struct Ramp {
+    pub table: u16,
+    pub scale: u16,
+    pub offset: u16,
+}
+
+impl Ramp {
+    /// floor(S·f/256) + offset with f = top/bottom.
+    pub fn sum(self, top: i64, bottom: i64) -> i64 {
+        // The divisor is positive, so the Euclidean quotient is the floor.
+        (signed(self.scale) * top).div_euclid(256 * bottom) + signed(self.offset)
+    }
+
+    /// The sum as a word, or None on overflow; only the last sum is checked.
+    pub fn sample(self, top: i64, bottom: i64) -> Option<u16> {
+        in_range(self.sum(top, bottom))
+    }
+}
+
 /// What a load copies; later writes to the settings do not reach it.
 #[derive(Clone, Debug)]
 struct Loaded {
-    table: u16,
+    ramp: Ramp,
     points: [u16; TABLE_WORDS],
-    scale: u16,
-    offset: u16,
     mode: Mode,
     frequency: u16,
     phase: u16,
@@ -108,15 +127,8 @@ impl Loaded {
             let steps = i64::from(self.time_step(n));
             (to * steps - (to - from) * i64::from(m), steps)
         };
-        rounded_sum(self.scale, top, bottom, self.offset)
+        self.ramp.sample(top, bottom)
     }
-}
-
-/// floor(S·f/256) + offset with f = top/bottom; only the last sum is checked.
-fn rounded_sum(scale: u16, top: i64, bottom: i64, offset: u16) -> Option<u16> {
-    // The divisor is positive, so the Euclidean quotient is the floor.
-    let product = (signed(scale) * top).div_euclid(256 * bottom);
-    in_range(product + signed(offset))
 }
 
 /// A sample as it was given.
@@ -177,10 +189,12 @@ impl Channel {
             samples_left: 0,
             overflows: 0,
             loaded: Loaded {
-                table: 0,
+                ramp: Ramp {
+                    table: 0,
+                    scale: SCALE_ONE,
+                    offset: 0,
+                },
                 points: [0; TABLE_WORDS],
-                scale: SCALE_ONE,
-                offset: 0,
                 mode: Mode(0),
                 frequency: 0,
                 phase: 0,
@@ -247,17 +261,24 @@ impl Channel {
         };
     }
 
+    /// The ramp of a level as the settings stand.
+    pub fn ramp(&self, level: usize) -> Ramp {
+        Ramp {
+            table: self.ramp_map[level],
+            scale: self.scales[usize::from(self.scale_map[level])],
+            offset: self.offsets[usize::from(self.offset_map[level])],
+        }
+    }
+
     /// Copies the pending level's table, scale factor, offset, mode, frequency
     /// and phase; the trigger now shows.
     fn load(&mut self, level: u8, active: &mut Active) {
         active.show();
         let level = usize::from(level);
-        self.loaded.table = self.ramp_map[level];
-        let first = TABLE_WORDS * usize::from(self.loaded.table);
+        self.loaded.ramp = self.ramp(level);
+        let first = TABLE_WORDS * usize::from(self.loaded.ramp.table);
         let table = &self.tables[first..first + TABLE_WORDS];
         self.loaded.points.copy_from_slice(table);
-        self.loaded.scale = self.scales[usize::from(self.scale_map[level])];
-        self.loaded.offset = self.offsets[usize::from(self.offset_map[level])];
         self.loaded.mode = self.mode;
         self.loaded.frequency = self.frequencies[usize::from(self.frequency_map[level])];
         self.loaded.phase = self.phases[usize::from(self.phase_map[level])];
@@ -421,9 +442,9 @@ impl Channel {
     pub fn read_word(&self, region: Region, index: usize) -> u16 {
         match region {
             Region::Output => self.output,
-            Region::LoadedTable => self.loaded.table,
-            Region::LoadedScale => self.loaded.scale,
-            Region::LoadedOffset => self.loaded.offset,
+            Region::LoadedTable => self.loaded.ramp.table,
+            Region::LoadedScale => self.loaded.ramp.scale,
+            Region::LoadedOffset => self.loaded.ramp.offset,
             Region::Segment => self.segment,
             Region::SamplesLeft => self.samples_left,
             Region::Overflows => self.overflows,

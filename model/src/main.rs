@@ -1,12 +1,15 @@
-//! A model of the four-channel ramp card behind its three programs.
+//! A model of the four-channel ramp card behind its four programs.
 
 mod bench;
+mod benches;
 mod card;
 mod channel;
 mod line;
 mod map;
 mod panel;
+mod profile;
 mod program;
+mod random;
 mod reach;
 mod refused;
 mod saved;
@@ -23,11 +26,12 @@ use std::process::ExitCode;
 use card::Card;
 use program::{Lines, Program};
 use reach::Reach;
-use refused::Refused;
+use refused::{Refused, Teller};
 
 /// What the program can be asked for.
-const USAGE: &str = "no argument, or: bench, or: save, \
-    or: sessions rampcard|bench SEED COUNT DIR, or: reach rampcard|bench FILE...";
+const USAGE: &str = "no argument, or: bench, or: save, or: verdict, \
+    or: sessions rampcard|bench SEED COUNT DIR, or: reach rampcard|bench FILE..., \
+    or: benches SEED COUNT DIR";
 /// The input is read in pieces of this many bytes.
 const PIECE: usize = 64 * 1024;
 
@@ -50,10 +54,16 @@ fn run(arguments: &[&str]) -> Result<(), String> {
     match arguments {
         [] => dialogue(Program::Rampcard).map_err(said),
         ["sessions", program, seed, count, directory] => {
-            write_sessions(named(program)?, seed, count, directory)
+            let (program, [seed, count]) = (named(program)?, numbers([seed, count])?);
+            sessions::write_all(program, seed, count, Path::new(directory)).map_err(said)
+        }
+        ["benches", seed, count, directory] => {
+            let [seed, count] = numbers([seed, count])?;
+            benches::write_all(seed, count, Path::new(directory)).map_err(said)
         }
         ["reach", program, files @ ..] => print_reach(named(program)?, files),
-        ["save"] => save_input().map_err(said),
+        ["save"] => play_input(refused::SAVE, saved::lines).map_err(said),
+        ["verdict"] => play_input(refused::CHECK, profile::verdict).map_err(said),
         [program] => dialogue(named(program)?).map_err(said),
         _ => Err(USAGE.to_string()),
     }
@@ -61,6 +71,15 @@ fn run(arguments: &[&str]) -> Result<(), String> {
 
 fn named(name: &str) -> Result<Program, String> {
     Program::named(name).ok_or(USAGE.to_string())
+}
+
+/// A seed and a count.
+fn numbers([seed, count]: [&str; 2]) -> Result<[u64; 2], String> {
+    let number = |name: &str, digits: &str| {
+        let refused = |_| format!("{name} is a decimal number of 64 bits");
+        digits.parse().map_err(refused)
+    };
+    Ok([number("SEED", seed)?, number("COUNT", count)?])
 }
 
 fn said(error: io::Error) -> String {
@@ -74,11 +93,12 @@ fn dialogue(program: Program) -> io::Result<()> {
     Ok(())
 }
 
-/// Standard input on a reset card; its settings go to standard output, what
-/// was refused to standard error.
-fn save_input() -> io::Result<()> {
+/// Standard input on a reset card; what is made of the card at its end goes to
+/// standard output, what was refused to standard error.
+fn play_input(teller: Teller, made: fn(&Card) -> Vec<u8>) -> io::Result<()> {
     let [input, output] = [plain(io::stdin())?, plain(io::stdout())?];
-    save(input, output, BufWriter::new(plain(io::stderr())?))
+    let refused = Refused::new(teller, BufWriter::new(plain(io::stderr())?));
+    play(input, output, refused, made)
 }
 
 /// A plain file, so that every failed read or write is seen as one.
@@ -86,12 +106,16 @@ fn plain(stream: impl AsFd) -> io::Result<File> {
     Ok(File::from(stream.as_fd().try_clone_to_owned()?))
 }
 
-/// Plays the lines of the whole input, then writes the saved lines.
-fn save(input: impl Read, mut output: impl Write, told: impl Write) -> io::Result<()> {
-    let mut refused = Refused::new(told);
+/// Plays the lines of the whole input, then writes what is made of the card.
+fn play(
+    input: impl Read,
+    mut output: impl Write,
+    mut refused: Refused<impl Write>,
+    made: fn(&Card) -> Vec<u8>,
+) -> io::Result<()> {
     let card = serve(Program::Rampcard, input, &mut refused)?;
     refused.finish()?;
-    output.write_all(&saved::lines(&card))?;
+    output.write_all(&made(&card))?;
     output.flush()
 }
 
@@ -112,22 +136,6 @@ fn serve(program: Program, mut input: impl Read, mut output: impl Write) -> io::
     let card = lines.finish(&mut output)?;
     output.flush()?;
     Ok(card)
-}
-
-/// Writes the random sessions of a seed, one a file.
-fn write_sessions(
-    program: Program,
-    seed: &str,
-    count: &str,
-    directory: &str,
-) -> Result<(), String> {
-    let seed = seed
-        .parse()
-        .map_err(|_| "SEED is a decimal number of 64 bits")?;
-    let count = count
-        .parse()
-        .map_err(|_| "COUNT is a decimal number of 64 bits")?;
-    sessions::write_all(program, seed, count, Path::new(directory)).map_err(said)
 }
 
 /// Prints what the sessions of the files reach, a line a thing.
@@ -189,10 +197,24 @@ mod tests {
         assert_eq!(out, b"FF\n");
     }
 
+    fn save(input: impl Read, output: impl Write, told: impl Write) -> io::Result<()> {
+        let refused = Refused::new(refused::SAVE, told);
+        play(input, output, refused, saved::lines)
+    }
+
     /// What is saved of an input and what is told of it.
     fn saved_of(input: &[u8]) -> (String, String) {
         let (mut out, mut told) = (Vec::new(), Vec::new());
         save(input, &mut out, &mut told).unwrap();
+        let [out, told] = [out, told].map(|bytes| String::from_utf8(bytes).unwrap());
+        (out, told)
+    }
+
+    /// The verdict on an input and what is told of it.
+    fn verdict_on(input: &[u8]) -> (String, String) {
+        let (mut out, mut told) = (Vec::new(), Vec::new());
+        let refused = Refused::new(refused::CHECK, &mut told);
+        play(input, &mut out, refused, profile::verdict).unwrap();
         let [out, told] = [out, told].map(|bytes| String::from_utf8(bytes).unwrap());
         (out, told)
     }
@@ -234,6 +256,22 @@ mod tests {
         let (_, told) = saved_of(b"030001\n18\n030001\n");
         let all = "save: line 2 is answered FF\nsave: 1 of 3 lines refused; \
             the rest was played and is saved; the guide has the numbers\n";
+        assert_eq!(told, all);
+    }
+
+    #[test]
+    fn an_input_is_played_and_checked() {
+        let passes = "the bench passes: every sum of every ramp is in range\n".to_string();
+        assert_eq!(verdict_on(b""), (passes.clone(), String::new()));
+        // Level 3 of channel 0 plays table 5: 16383, 16384, then the end.
+        let table = b"01080300050000\n0102803FFF000140000001\n";
+        assert_eq!(verdict_on(table), (passes, String::new()));
+        let (out, told) = verdict_on(&[&table[..], b"010843001F\n01087F0200\n16"].concat());
+        let breaks = "the bench breaks the profile: channel 0, level 3: \
+            the sum at point 1 of table 5 is out of range\n";
+        assert_eq!(out, breaks);
+        let all = "check: line 5 is answered FF\ncheck: 1 of 5 lines refused; \
+            the rest was played and is checked; the guide has the numbers\n";
         assert_eq!(told, all);
     }
 

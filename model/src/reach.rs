@@ -1,5 +1,6 @@
 //! What sessions reach: things that are counted while they are played.
 
+mod profile;
 mod sine;
 
 use std::collections::BTreeSet;
@@ -94,7 +95,7 @@ const LONG: u32 = 10;
 /// The things that a program's sessions can reach, in the order of printing.
 fn things(program: Program) -> Vec<String> {
     let bench = program == Program::Bench;
-    let more: &[u8] = &[0x10, 0x11, 0x12, 0x15, 0x18, 0x1B, 0x1C];
+    let more: &[u8] = &[0x10, 0x11, 0x12, 0x15, 0x16, 0x18, 0x1B, 0x1C];
     let mut things: Vec<String> = [0x01, 0x02, 0x03, 0x04]
         .iter()
         .chain(if bench { more } else { &[] })
@@ -106,6 +107,7 @@ fn things(program: Program) -> Vec<String> {
     if bench {
         things.extend(READINGS.map(reading_name));
         things.extend(OF_BENCH.map(String::from));
+        things.extend(profile::OF_BENCH.map(String::from));
     }
     things.extend(OF_BOTH.map(String::from));
     things.extend(sine::OF_BOTH.map(String::from));
@@ -309,6 +311,10 @@ impl<'a> Player<'a> {
             .expect("a vector takes every answer");
         let Some(frame) = frame else {
             self.count(NO_SAVE, self.is_bench() && line.starts_with(b"15"));
+            self.count(
+                profile::NO_CHECK,
+                self.is_bench() && line.starts_with(b"16"),
+            );
             return self.reach.add(NO_FRAME, 1);
         };
         let byte = |index: usize| line::field(&answer[2 * index..2 * index + 2]).unwrap() as u8;
@@ -335,6 +341,7 @@ impl<'a> Player<'a> {
                     self.saved(byte(1), buffer.len());
                 }
             }
+            0x16 => self.checked(&looks),
             0x18 => self.was_reset(looks),
             0x1B => self.reach.add([NOT_SHOWN, SHOWN][usize::from(byte(1))], 1),
             0x1C => {
@@ -476,7 +483,7 @@ mod tests {
 
     #[test]
     fn saves() {
-        let session = "15000094BE\n15000094BF\n15000094C0\n1500000000\n1500010001\n15\n16\n";
+        let session = "15000094BE\n15000094BF\n15000094C0\n1500000000\n1500010001\n15\n1600\n";
         for (before, other) in [("", 0), ("0108200001\n010A040001\n", 0), (RUNNING, 2)] {
             let session = format!("{before}{session}");
             for (thing, times) in [

@@ -1,10 +1,28 @@
-//! What the program save tells of the lines that are not answered 0.
+//! What the programs save and verdict tell of the lines that are not answered 0.
 
 use std::io::{self, Write};
+
+/// Who tells, and what becomes of what was played.
+#[derive(Clone, Copy, Debug)]
+pub struct Teller {
+    name: &'static str,
+    done: &'static str,
+}
+
+pub const SAVE: Teller = Teller {
+    name: "save",
+    done: "saved",
+};
+
+pub const CHECK: Teller = Teller {
+    name: "check",
+    done: "checked",
+};
 
 /// Takes the line program's answers, one for each line of the input, and tells
 /// those that refuse their line.
 pub struct Refused<W> {
+    teller: Teller,
     told: W,
     /// The answer begun.
     answer: Vec<u8>,
@@ -14,8 +32,9 @@ pub struct Refused<W> {
 
 impl<W: Write> Refused<W> {
     /// No answer yet.
-    pub fn new(told: W) -> Self {
+    pub fn new(teller: Teller, told: W) -> Self {
         Refused {
+            teller,
             told,
             answer: Vec::new(),
             lines: 0,
@@ -28,7 +47,8 @@ impl<W: Write> Refused<W> {
         self.lines += 1;
         if refuses(&self.answer) {
             self.refused += 1;
-            write!(self.told, "save: line {} is answered ", self.lines)?;
+            let (name, line) = (self.teller.name, self.lines);
+            write!(self.told, "{name}: line {line} is answered ")?;
             self.told.write_all(&self.answer)?;
             self.told.write_all(b"\n")?;
         }
@@ -39,11 +59,12 @@ impl<W: Write> Refused<W> {
     /// The input has ended: how many lines were refused, if any.
     pub fn finish(&mut self) -> io::Result<()> {
         let (refused, lines) = (self.refused, self.lines);
+        let Teller { name, done } = self.teller;
         if refused > 0 {
             writeln!(
                 self.told,
-                "save: {refused} of {lines} lines refused; \
-                the rest was played and is saved; the guide has the numbers"
+                "{name}: {refused} of {lines} lines refused; \
+                the rest was played and is {done}; the guide has the numbers"
             )?;
         }
         self.told.flush()
@@ -92,9 +113,9 @@ mod tests {
     }
 
     /// What is told of these answers, which come in two pieces.
-    fn told(answers: &str, cut: usize) -> String {
+    fn told(teller: Teller, answers: &str, cut: usize) -> String {
         let mut out = Vec::new();
-        let mut refused = Refused::new(&mut out);
+        let mut refused = Refused::new(teller, &mut out);
         refused.write_all(&answers.as_bytes()[..cut]).unwrap();
         refused.write_all(&answers.as_bytes()[cut..]).unwrap();
         refused.finish().unwrap();
@@ -109,13 +130,17 @@ mod tests {
             save: 2 of 5 lines refused; the rest was played and is saved; \
             the guide has the numbers\n";
         for cut in 0..answers.len() {
-            assert_eq!(told(answers, cut), lines, "{cut}");
+            assert_eq!(told(SAVE, answers, cut), lines, "{cut}");
         }
+        let lines = lines.replace("save:", "check:").replace("saved", "checked");
+        assert_eq!(told(CHECK, answers, 0), lines);
     }
 
     #[test]
     fn nothing_is_told_where_nothing_is_refused() {
-        assert_eq!(told("", 0), "");
-        assert_eq!(told("81000001\n830000000000000000\n", 3), "");
+        for teller in [SAVE, CHECK] {
+            assert_eq!(told(teller, "", 0), "");
+            assert_eq!(told(teller, "81000001\n830000000000000000\n", 3), "");
+        }
     }
 }

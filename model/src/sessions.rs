@@ -1,6 +1,7 @@
 //! Random sessions for both programs, the same ones for the same seed.
 
 mod bench;
+mod profile;
 mod sine;
 
 use std::fs;
@@ -8,6 +9,7 @@ use std::io;
 use std::path::Path;
 
 use crate::program::Program;
+use crate::random::Random;
 
 /// Every region of the map of words, channel 0 standing for all channels.
 const REGIONS: [(u16, u16); 28] = [
@@ -75,43 +77,6 @@ const EDGES: [u16; 10] = [
 /// The ticks a session usually stays below.
 const TICKS: u32 = 150_000;
 
-/// A splitmix generator.
-struct Random(u64);
-
-impl Random {
-    fn next(&mut self) -> u64 {
-        self.0 = self.0.wrapping_add(0x9E37_79B9_7F4A_7C15);
-        let mut z = self.0;
-        z = (z ^ (z >> 30)).wrapping_mul(0xBF58_476D_1CE4_E5B9);
-        z = (z ^ (z >> 27)).wrapping_mul(0x94D0_49BB_1331_11EB);
-        z ^ (z >> 31)
-    }
-
-    /// A number below the bound.
-    fn below(&mut self, bound: u16) -> u16 {
-        (self.next() % u64::from(bound)) as u16
-    }
-
-    /// A number from the first to the last, both included.
-    fn within(&mut self, first: u16, last: u16) -> u16 {
-        let span = u64::from(last - first) + 1;
-        first + (self.next() % span) as u16
-    }
-
-    fn word(&mut self) -> u16 {
-        self.next() as u16
-    }
-
-    /// True so many times in a hundred.
-    fn percent(&mut self, chance: u16) -> bool {
-        self.below(100) < chance
-    }
-
-    fn pick<T: Copy>(&mut self, from: &[T]) -> T {
-        from[(self.next() % from.len() as u64) as usize]
-    }
-}
-
 /// Writes the sessions DIR/00000.txt, DIR/00001.txt, ... of the seed.
 pub fn write_all(program: Program, seed: u64, count: u64, directory: &Path) -> io::Result<()> {
     fs::create_dir_all(directory)?;
@@ -124,9 +89,7 @@ pub fn write_all(program: Program, seed: u64, count: u64, directory: &Path) -> i
 
 /// One session; it depends on the program, the seed and its index alone.
 fn session(program: Program, seed: u64, index: u64) -> Vec<u8> {
-    let mut mixed = Random(seed);
-    let own = mixed.next() ^ index.wrapping_mul(0xD6E8_FEB8_6659_FD93);
-    let mut session = Session::new(program, Random(own));
+    let mut session = Session::new(program, Random::of(seed, index));
     let lines = session.length();
     if lines > 5 && session.random.percent(90) {
         session.set_up();

@@ -8,7 +8,7 @@ use crate::saved;
 const SLICE: u16 = MAX_SLICE as u16;
 
 /// The kinds of steps a session of the bench program is made of.
-pub(super) const STEPS: [Step; 19] = [
+pub(super) const STEPS: [Step; 22] = [
     (100, Session::line_step),
     (3, Session::write_tables),
     (3, Session::write_region),
@@ -22,6 +22,9 @@ pub(super) const STEPS: [Step; 19] = [
     (5, Session::sine_moment),
     (3, Session::wave_table),
     (8, Session::save),
+    (8, Session::check),
+    (2, Session::check_a_bench),
+    (3, Session::check_a_border),
     (5, Session::plot_a_new_table),
     (6, Session::plot_anywhere),
     (8, Session::show_a_region),
@@ -359,6 +362,7 @@ impl Session {
             "1000".to_string(),
             "1003400040004000".to_string(),
             "15000094BF".to_string(),
+            "16".to_string(),
             format!("1B00{table:02X}00"),
             "1C0A04FFFF".to_string(),
         ];
@@ -377,7 +381,7 @@ impl Session {
             "13000A",
             "1400000001",
             "1500010001",
-            "16",
+            "1600",
             "1701",
             "1702",
             "1900",
