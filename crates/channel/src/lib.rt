@@ -176,6 +176,21 @@ pub fn just_loaded(ch: Channel) -> bool
     }
 }
 
+// Table number, scale factor, offset and tone that the maps give a level.
+pub fn settings_for(settings: &[u16], c: u16, level: u16) -> Loaded
+    ensures { λ r. ⌜ r ≡ loadedFor (lent settings) c level ⌝ }
+{
+    let table = word_at(settings, c, 0x800, level);
+    let scale_entry = word_at(settings, c, 0x840, level);
+    let offset_entry = word_at(settings, c, 0x880, level);
+    Loaded {
+        table: table,
+        scale: word_at(settings, c, 0x860, scale_entry),
+        offset: word_at(settings, c, 0x8A0, offset_entry),
+        tone: tone_for(settings, c, level),
+    }
+}
+
 // A channel after a reset.
 pub fn fresh() -> Channel
     ensures { λ r. ⌜ r ≡ resetChannel ⌝ }
@@ -349,21 +364,6 @@ fn load_level(settings: &[u16], tables: &mut [u16], c: u16, ch: Channel, level: 
             },
         },
         signal: signal,
-    }
-}
-
-// Table number, scale factor, offset and tone that the maps give a level.
-fn settings_for(settings: &[u16], c: u16, level: u16) -> Loaded
-    ensures { λ r. ⌜ r ≡ loadedFor (lent settings) c level ⌝ }
-{
-    let table = word_at(settings, c, 0x800, level);
-    let scale_entry = word_at(settings, c, 0x840, level);
-    let offset_entry = word_at(settings, c, 0x880, level);
-    Loaded {
-        table: table,
-        scale: word_at(settings, c, 0x860, scale_entry),
-        offset: word_at(settings, c, 0x8A0, offset_entry),
-        tone: tone_for(settings, c, level),
     }
 }
 

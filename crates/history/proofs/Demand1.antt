@@ -11,6 +11,7 @@ use Rattle.slots.specs.declared.Holder.the-variants.{Level, Nobody}
 use Rattle.slots.specs.Slots.{otherOf}
 use Rattle.slots.proofs.Holders.{level-held, held-some}
 use Rattle.transfer.specs.Word.{isLevel, heldAt}
+use Rattle.profile.proofs.Right.{verdict-right}
 use Rattle.history.specs.Demand1.{HeldElsewhere, Demand1}
 use Rattle.history.proofs.Numbers.{write-answered, read-answered}
 use Rattle.history.proofs.Effects.{all-effects}
@@ -49,6 +50,7 @@ demand1 =
       counted = counted-is-done;
       tables = wave-tables;
       saves = λ st buffer. save-answered (st .settings) buffer;
+      checks = λ st. verdict-right (st .settings);
       seven = held;
       seven-only = held-only;
     }

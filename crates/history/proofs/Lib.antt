@@ -26,6 +26,7 @@ pub mod Triggers
 pub mod Story
 pub mod Countdowns
 pub mod Loads
+pub mod InRange
 pub mod Active
 pub mod Named
 pub mod Demand2

@@ -63,7 +63,7 @@ some-or f g =
     ∙ ap (λ (x : Bool). x || (f 3 || g 3)) (or-swap (f 0 || f 1) (g 0 || g 1) (f 2) (g 2))
     ∙ or-swap (f 0 || f 1 || f 2) (g 0 || g 1 || g 2) (f 3) (g 3)
 
-load-append : (hs js : List Happening) → loadAmong (hs ++ js) ≡ loadAmong hs || loadAmong js
+pub load-append : (hs js : List Happening) → loadAmong (hs ++ js) ≡ loadAmong hs || loadAmong js
 load-append [] js = refl
 load-append (Load ld ∷ hs) js = refl
 load-append (Sample w f p u ∷ hs) js = load-append hs js
@@ -73,7 +73,7 @@ load-append (Clear ∷ hs) js = load-append hs js
 load-append (Fresh ∷ hs) js = load-append hs js
 
 -- words done are no loads
-words-load : (c a : ℕ) (vs : List ℕ) → loadAmong (byWords c a vs) ≡ false
+pub words-load : (c a : ℕ) (vs : List ℕ) → loadAmong (byWords c a vs) ≡ false
 words-load c a [] = refl
 words-load c a (v ∷ vs) = load-append (byWord c a v) (byWords c (a + 1) vs) ∙ rw (go (eqb a (base c + 0xA04)) (eqb a (base c + 0xA39)), words-load c (a + 1) vs)
   where

@@ -34,7 +34,7 @@ use Rattle.transfer.specs.declared.Effect.the-variants.{Keep, Output, Erase, No
 use Rattle.transfer.specs.Word.{effectOf, performOf}
 use Rattle.transfer.specs.Transfer.{processedOf, writeOf}
 use Rattle.course.proofs.Copies.{choose}
-use Rattle.history.specs.History.{Act, Tick, Write, Ask, HandIn, Reset, acts, Each, Words16}
+use Rattle.history.specs.History.{Act, Tick, Write, Ask, HandIn, Reset, act, acts, Each, Words16}
 use Rattle.history.specs.Sound.{Tables, ChannelSound, CauseSound, Sound, Reachable}
 use Rattle.history.proofs.Addresses.{slot-register}
 use Rattle.history.proofs.Words.{Passed, set-word, stored, erased-words, reset-words}
@@ -308,14 +308,17 @@ write-sound st start count ws w h =
 tick-sound-card : (waves : List ℕ) (st : State) (event : ℕ) → Sound st → Sound (tickWith waves st event)
 tick-sound-card waves st event h = event-sound (advanced waves st) (advanced-sound st h waves) event
 
+-- one act, and the words of those that follow
+pub one-sound : (st : State) (x : Act) (xs : List Act) → Words16 (x ∷ xs) → Sound st → Sound (act st x) × Words16 xs
+one-sound st (Tick waves event) xs w h = (tick-sound-card waves st event h, w)
+one-sound st (Write start count ws) xs w h = (write-sound st start count ws (w .0) h, w .1)
+one-sound st (Ask what) xs w h = (h, w)
+one-sound st (HandIn to ws) xs w h = (h, w)
+one-sound st Reset xs w h = (reset-sound (st .settings) (st .tables) (h .settings .many) (h .tables .many), w)
+
 acts-sound : (st : State) (xs : List Act) → Words16 xs → Sound st → Sound (acts st xs)
 acts-sound st [] w h = h
-acts-sound st (Tick waves event ∷ xs) w h = acts-sound (tickWith waves st event) xs w (tick-sound-card waves st event h)
-acts-sound st (Write start count ws ∷ xs) w h = acts-sound (writeOf st start count ws .state) xs (w .1) (write-sound st start count ws (w .0) h)
-acts-sound st (Ask what ∷ xs) w h = acts-sound st xs w h
-acts-sound st (HandIn to ws ∷ xs) w h = acts-sound st xs w h
-acts-sound st (Reset ∷ xs) w h =
-    acts-sound (resetOf (st .settings) (st .tables)) xs w (reset-sound (st .settings) (st .tables) (h .settings .many) (h .tables .many))
+acts-sound st (x ∷ xs) w h = let r = one-sound st x xs w h in acts-sound (act st x) xs (r .1) (r .0)
 
 -- THE STATES THAT THE CARD COMES TO ARE SOUND
 pub reachable : Reachable

@@ -48,7 +48,7 @@ use Rattle.history.specs.Sound.{Sound, PhaseSound, RampSound}
 use Rattle.history.specs.Story.{Happening, Load, Sample, FreeSample, Output, Clear, sample, byRamp, byStart, inPhase, byTick, byTrigger, byWord, byWords, inTick, happens, story, Told, fresh, ramped, sounds, sines, tell, told, Shows, ChannelsRight, AtRest}
 use Rattle.history.proofs.Addresses.{output-register, table-register, scale-register, offset-register, segment-register, left-register, overflow-register}
 use Rattle.history.proofs.Cards.{channel-same, channel-other, channel-many, count-channels}
-use Rattle.history.proofs.Sound.{reachable}
+use Rattle.history.proofs.Sound.{one-sound, reachable}
 use Rattle.history.proofs.Effects.{passed-does}
 use Rattle.history.proofs.Writing.{write-by}
 use Rattle.history.proofs.Parts.{none-first}
@@ -393,25 +393,9 @@ module _ (c : ℕ) (inside : c < 4) where
       → Right (channelOf (acts st xs .card) c) (told c x (story c st xs))
   acts-right st h [] w x r = r
   acts-right st h (y ∷ ys) w x r =
+      let n = one-sound st y ys w h in
       rw (told-append c x (happens c st y) (story c (act st y) ys))
-      (acts-right (act st y) (next-sound y ys w) ys (next-words y ys w) (told c x (happens c st y)) (act-right st h y x r))
-    where
-      next-words : (y : Act) (ys : List Act) → Words16 (y ∷ ys) → Words16 ys
-      next-words (Tick waves event) ys w = w
-      next-words (Write start count ws) ys w = w .1
-      next-words (Ask what) ys w = w
-      next-words (HandIn to ws) ys w = w
-      next-words Reset ys w = w
-
-      one-words : (y : Act) (ys : List Act) → Words16 (y ∷ ys) → Words16 (y ∷ [])
-      one-words (Tick waves event) ys w = tt
-      one-words (Write start count ws) ys w = (w .0, tt)
-      one-words (Ask what) ys w = tt
-      one-words (HandIn to ws) ys w = tt
-      one-words Reset ys w = tt
-
-      next-sound : (y : Act) (ys : List Act) → Words16 (y ∷ ys) → Sound (act st y)
-      next-sound y ys w = reachable .history st (y ∷ []) (one-words y ys w) h
+      (acts-right (act st y) (n .0) ys (n .1) (told c x (happens c st y)) (act-right st h y x r))
 
   reads : (st : State) (x : Told) → Right (channelOf (st .card) c) x → Shows c st x
   reads st x r =

@@ -1,4 +1,4 @@
--- Demand 1 of transfers, of wave tables and of saves: 'A bad one gets its number from document 01, checked in the order given there. Words before
+-- Demand 1 of transfers, of wave tables, of saves and of checks: 'A bad one gets its number from document 01, checked in the order given there. Words before
 -- the stopping word are done with all their effects, and nothing else changes.'
 use mathlib.Core.Path.{_≡_}
 use mathlib.Core.Bool.{true}
@@ -8,6 +8,7 @@ use Rattle.map.specs.declared.Register.the-variants as R
 use Rattle.card.specs.Card.{State}
 use Rattle.transfer.specs.Word.{heldAt}
 use Rattle.saved.specs.Saved.{saveOf}
+use Rattle.profile.specs.Laws.{VerdictRight}
 use Rattle.transfer.specs.Transfer.{writeOf, readOf}
 use Rattle.history.specs.Numbers.{WriteAnswered, ReadAnswered}
 use Rattle.history.specs.Effects.{AllEffects}
@@ -34,6 +35,8 @@ pub record Demand1 : Type 0 where
   pub tables : WaveTables
   -- every save
   pub saves : (st : State) (buffer : List ℕ) → SaveAnswered (st .settings) buffer (saveOf (st .settings) buffer)
+  -- every check: its verdict, which is no refusal
+  pub checks : (st : State) → VerdictRight (st .settings)
   -- the case of 7, in the paper's words
   pub seven : (s : List ℕ) (level event : ℕ) → heldAt s (R.Slot level) event ≡ true → HeldElsewhere s level event
   pub seven-only : (s : List ℕ) (level event : ℕ) → HeldElsewhere s level event → heldAt s (R.Slot level) event ≡ true

@@ -1,4 +1,4 @@
--- A history of the card: ticks with their events, transfers, saves, wave tables handed in and resets, one after the other.
+-- A history of the card: ticks with their events, transfers, saves, checks, wave tables handed in and resets, one after the other.
 use mathlib.Core.Path.{_≡_}
 use mathlib.Core.Bool.{Bool, true, false, cond}
 use mathlib.Core.List.{List, [], _∷_}
@@ -21,6 +21,8 @@ pub data Question : Type 0 where
   Read : ℕ → ℕ → List ℕ → Question
   -- its settings as lines, into a buffer
   Save : List ℕ → Question
+  -- whether they keep the profile
+  Check : Question
 
 pub data Act : Type 0 where
   -- a tick with the wave tables lent to it, and its event, 0xFE if there is none
@@ -35,7 +37,7 @@ pub data Act : Type 0 where
 abbrev pub act : State → Act → State
 act st (Tick waves event) = tickWith waves st event
 act st (Write start count ws) = writeOf st start count ws .state
--- a read 'has no other effect': `readOf` answers with words alone, and `saveOf` with bytes alone
+-- a read 'has no other effect': `readOf` answers with words alone, `saveOf` with bytes alone, and `verdictOf` with a verdict
 act st (Ask what) = st
 act st (HandIn to ws) = st
 act st Reset = resetOf (st .settings) (st .tables)

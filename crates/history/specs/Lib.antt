@@ -14,5 +14,6 @@ pub mod Counts
 pub mod Story
 pub mod Countdowns
 pub mod Active
+pub mod InRange
 pub mod Demand2
 pub mod Demand3

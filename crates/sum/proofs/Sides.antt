@@ -2,20 +2,21 @@
 use mathlib.Core.Path.{_≡_, refl, sym, ap, _∙_}
 use mathlib.Core.Bool.{Bool, true, false, cond, true≢false}
 use mathlib.Core.Logic.{_⊎_, inl, inr}
-use Prim.Native.Nat.{ℕ, _+_, _≤_, _<_, _^_}
+use Prim.Native.Nat.{ℕ, zero, suc, _+_, _≤_, _<_, _^_}
 use native.Mathlib.Omega.{arith}
-use lib.Dec.{T}
+use lib.Dec.{T, eqb·suc-zero}
 use lib.IntN.{ℤ, pos, negsuc}
 use lib.Signed.{_≤ℤ_, ltZ}
 use Rattle.word.specs.Word.{signedOf, wordOf}
 use Rattle.word.proofs.Split.{le-split, lt-split, lt-join}
 use Rattle.word.proofs.Number.{signed-of-word}
-use Rattle.sum.specs.Sample.{sideOf, settled, totalOf}
+use Rattle.sum.specs.Fraction.{whole, along}
+use Rattle.sum.specs.Sample.{sumOf, sideOf, settled, totalOf}
 use Rattle.sum.specs.declared.Side.{Side}
 use Rattle.sum.specs.declared.Side.the-variants.{Below, Within, Above}
 use Rattle.sum.specs.declared.Sum.the-variants.{Word}
-use Rattle.sum.specs.Order.{Rises, Falls}
-use Rattle.sum.proofs.Samples.{one-way}
+use Rattle.sum.specs.Order.{Rises, Falls, Between}
+use Rattle.sum.proofs.Samples.{one-way, between-points}
 
 -- ---- within the range
 
@@ -85,3 +86,16 @@ pub segment-side : (scale from to step offset m i e : ℕ)
     → sideOf (totalOf scale from to step m offset) ≡ sideOf (totalOf scale from to step (m + i + e) offset)
     → sideOf (totalOf scale from to step (m + i) offset) ≡ sideOf (totalOf scale from to step m offset)
 segment-side scale from to step offset = convex (λ m. totalOf scale from to step m offset) (one-way (signedOf scale) (signedOf offset) (signedOf from) (signedOf to) step)
+
+-- WHERE BOTH POINTS OF A SEGMENT ARE IN RANGE, EVERY SAMPLE BETWEEN THEM IS
+both-within : (x y z : ℤ) → Between x y z → sideOf x ≡ Within → sideOf z ≡ Within → sideOf y ≡ Within
+both-within x y z (inl (l, m)) a b = between x y z l m (a ∙ sym b) ∙ a
+both-within x y z (inr (l, m)) a b = between z y x l m (b ∙ sym a) ∙ b
+
+pub points-decide : (scale from to step left offset : ℕ) → 1 ≤ step → left ≤ step
+    → sideOf (totalOf scale from from 0 0 offset) ≡ Within → sideOf (totalOf scale to to 0 0 offset) ≡ Within
+    → sideOf (totalOf scale from to step left offset) ≡ Within
+points-decide scale from to zero left offset h l a b = absurd (omega arith)
+points-decide scale from to (suc d) left offset h l a b =
+    rw (eqb·suc-zero d)
+    (both-within _ _ _ (between-points (signedOf scale) (signedOf offset) (signedOf from) (signedOf to) (suc d) left (omega arith) l) a b)

@@ -1,0 +1,635 @@
+-- A ramp loaded under settings that pass has no sum out of range (`never-out`): from its load to the next a channel holds the copy, and its
+-- ramp stands at one of the samples that the check speaks of, or it has none to give. Assumes nothing.
+use mathlib.Core.Path.{_≡_, refl, sym, ap, _∙_, subst}
+use mathlib.Core.Bool.{Bool, true, false, _&&_, _||_, cond, true≢false}
+use mathlib.Core.Logic.{_⊎_, inl, inr}
+use mathlib.Core.List.{List, [], _∷_, _++_}
+use Prim.Native.Nat.{ℕ, zero, suc, _+_, _*_, _-_, _≤_, _<_}
+use native.Mathlib.Omega.{arith}
+use native.Mathlib.Nat.{le-max-left}
+use lib.Dec.{ltb, eqb}
+use lib.ListN.{length}
+use borrow.Author.Tests.{ne-eqb, eqb-true, eqb-false, ltb-true, ltb-false}
+use Rattle.sum.specs.declared.Sum.{Sum}
+use Rattle.sum.specs.declared.Sum.the-variants.{Word, Overflow}
+use Rattle.wave.specs.Sine.{sineOf}
+use Rattle.map.specs.Map.{base}
+use Rattle.map.specs.Addresses.{delayAt, enableAt}
+use Rattle.slots.specs.declared.Holder.{Holder}
+use Rattle.slots.specs.declared.Holder.the-variants.{Level, Nobody}
+use Rattle.word.specs.Word.{lasting}
+use Rattle.word.specs.declared.Micros.{Micros}
+use Rattle.channel.specs.declared.Place.{Place}
+use Rattle.channel.specs.declared.Way.{Way}
+use Rattle.channel.specs.declared.Tone.{Tone}
+use Rattle.channel.specs.declared.Signal.{Signal}
+use Rattle.channel.specs.declared.Loaded.{Loaded}
+use Rattle.channel.specs.declared.Moved.{Moved}
+use Rattle.channel.specs.declared.Ramp.{Ramp}
+use Rattle.channel.specs.declared.Ramp.the-variants.{Still, Going, Free}
+use Rattle.channel.specs.declared.Phase.{Phase}
+use Rattle.channel.specs.declared.Phase.the-variants.{Rest, Counting, Running, FreeRunning}
+use Rattle.channel.specs.declared.Gave.{Gave}
+use Rattle.channel.specs.declared.Gave.the-variants.{NoSample, OfRamp, OfFreeRun}
+use Rattle.channel.specs.declared.Channel.{Channel}
+use Rattle.channel.specs.Ramp.{enter, next, sampleAt, way, isSine, ended, onward, given, sooner, unsampled, advance}
+use Rattle.channel.specs.Signal.{overflows, sineAfter, signalAfter, counterAt, counterNext, makeOf}
+use Rattle.channel.specs.Channel.{Side, Move, side, move, quiet, counting, word, with, withSignal, firstOf, lead, loadsAt, toStart, rampOf, phaseOf, load, start, countTo, moveAt, moveOf, movedOn, tickOf, loadedFor, countdown, triggered}
+use Rattle.card.specs.declared.Cause.{Cause}
+use Rattle.card.specs.Card.{State, channelOf}
+use Rattle.card.specs.Trigger.{triggerOf}
+use Rattle.card.specs.Tick.{advanced}
+use Rattle.card.specs.Reset.{resetOf}
+use Rattle.card.proofs.Ticks.{advanced-settings}
+use Rattle.course.specs.Points.{SameTable}
+use Rattle.course.specs.Follows.{tableFor, totalFor, placeFor, sumFor, sineFor, freeFor}
+use Rattle.course.specs.Course as C
+use Rattle.course.proofs.Copies.{choose, tick-length, trigger-length}
+use Rattle.course.proofs.Acts.{run-length, untimed-table, untimed-ramp}
+use Rattle.course.proofs.Tables.{same-enter, same-next, same-sample}
+use Rattle.course.proofs.Walk.{placed, place-first, place-step, place-more, place-last}
+use Rattle.course.proofs.Moves.{tick-load}
+use Rattle.course.proofs.Course.{Held, loads}
+use Rattle.profile.specs.Laws.{InRange}
+use Rattle.profile.proofs.Right.{verdict-right}
+use Rattle.history.specs.History.{Act, Tick, Write, Ask, HandIn, Reset, act, acts, readBack, wordsDone, triggerBy, Words16}
+use Rattle.history.specs.Sound.{Sound}
+use Rattle.history.specs.Triggers.{eventBy}
+use Rattle.history.specs.Countdowns.{justBefore}
+use Rattle.history.specs.Demand3.{sideAt}
+use Rattle.history.specs.Story.{Happening, Load, Sample, FreeSample, Output, Clear, Fresh, sample, byRamp, byStart, inPhase, byTick, byTrigger, byWord, byWords, inTick, atTrigger, happens, story}
+use Rattle.history.specs.Active.{loadAmong}
+use Rattle.history.specs.InRange.{outAmong, PassedLoad, NoSumCounted, NeverOut}
+use Rattle.history.proofs.Addresses.{overflow-register}
+use Rattle.history.proofs.Channels.{ramp-phase}
+use Rattle.history.proofs.Sound.{one-sound}
+use Rattle.history.proofs.Parts.{write-part}
+use Rattle.history.proofs.Tracks.{TickTurn, tick-turn, tick-same, tick-goes, TriggerTurn, trigger-turn, trigger-goes, trigger-is, advanced-room, struck-settings, before-settings, before-room, quiet-tick}
+use Rattle.history.proofs.Story.{four-fresh}
+use Rattle.history.proofs.Countdowns.{older-goes-on}
+use Rattle.history.proofs.Loads.{load-append, words-load, tick-loads, trigger-loads, trigger-pending}
+
+-- ---- what a tick gives
+
+-- no sum out of range; a sample of a free run is a sine
+abbrev GaveIn : Tone → Gave → Type 0
+GaveIn t NoSample = Unit
+GaveIn t (OfRamp f u) = overflows u ≡ false
+GaveIn t OfFreeRun = isSine (t .mode) ≡ true
+
+and-left : (a b : Bool) → a && b ≡ true → a ≡ true
+and-left true b e = refl
+and-left false b e = e
+
+-- so nothing out of range happens
+module _ (w z l : List ℕ) (c : ℕ) (ch : Channel) (t : Tone) where
+  ramp-told : (r : Ramp) → GaveIn t (advance l (firstOf c) (ch .loaded) r (ch .shown) .gave) → outAmong (byRamp w l c ch r) ≡ false
+  unfolding advance given
+  ramp-told Still g = refl
+  ramp-told (Going r) g = go (ltb 1 (r .wait .0)) g
+    where
+      p : Place
+      p = next l (firstOf c) (r .place)
+
+      go : (b : Bool) → GaveIn t (cond b (unsampled (Going (sooner r)) (ch .shown)) (given false l (firstOf c) (ch .loaded) (r .period .0) p (ch .shown)) .gave)
+          → outAmong (cond b [] (sample w false l c ch p)) ≡ false
+      go true g = refl
+      go false g = rw g
+  ramp-told (Free r) g = choose (λ hs. outAmong hs ≡ false) (ltb 1 (r .wait .0)) _ _ refl refl
+
+  start-told : GaveIn t (start z l c ch .gave) → outAmong (byStart w z l c ch) ≡ false
+  unfolding start given
+  start-told g = go (eqb (word z (enableAt c)) 1) g
+    where
+      p : Place
+      p = enter l (firstOf c) 0
+
+      go : (b : Bool) → GaveIn t (cond b (movedOn ch l (given true l (firstOf c) (ch .loaded) (lasting 1) p (ch .shown))) (quiet (side (with ch Rest (ch .shown)) l)) .gave)
+          → outAmong (cond b (sample w true l c ch p) []) ≡ false
+      go true g = rw g
+      go false g = refl
+
+  moved-told : (p : Phase) → GaveIn t (moveAt p z l c ch .gave) → outAmong (inPhase p w z l c ch) ≡ false
+  unfolding moveAt countTo
+  moved-told Rest g = refl
+  moved-told (Counting n older) g = go (eqb (n .0 - 1) 0) (loadsAt (n .0 - 1)) g
+    where
+      abbrev m : Moved
+      m = advance l (firstOf c) (ch .loaded) older (ch .shown)
+
+      go : (a b : Bool)
+          → GaveIn t (cond a (start z l c ch) (cond b (quiet (load z l c ch (ch .level))) (move (with ch (Counting (record { 0 = n .0 - 1 }) (m .ramp)) (m .shown)) l (m .gave))) .gave)
+          → outAmong (cond a (byStart w z l c ch) (cond b (Load (loadedFor z c (ch .level)) ∷ []) (byRamp w l c ch older))) ≡ false
+      go true b g = start-told g
+      go false true g = refl
+      go false false g = ramp-told older g
+  moved-told (Running r) g = ramp-told (Going r) g
+  moved-told (FreeRunning r) g = ramp-told (Free r) g
+
+-- and A39 stays, or the sine's product is out of range
+abbrev Counted : ℕ → List ℕ → Channel → Channel → Type 0
+Counted c w x y =
+    (y .signal .overflow ≡ x .signal .overflow) ⊎ ((isSine (x .loaded .tone .mode) ≡ true) × (sineOf w c (y .signal .counter) (y .shown .amplitude) ≡ Overflow))
+
+module _ (c : ℕ) (w : List ℕ) where
+  abbrev MadeIn : Tone → ℕ → Signal → Signal → Type 0
+  MadeIn t a y z = (z .overflow ≡ y .overflow) ⊎ ((isSine (t .mode) ≡ true) × (sineOf w c (z .counter) a ≡ Overflow))
+
+  sine-in : (t : Tone) → isSine (t .mode) ≡ true → (n a : ℕ) (y : Signal) → MadeIn t a y (sineAfter w c n a false y)
+  sine-in t h n a y = go (sineOf w c n a) refl
+    where
+      go : (r : Sum) → sineOf w c n a ≡ r → MadeIn t a y (signalAfter r false n y)
+      go (Word d) e = inl refl
+      go Overflow e = inr (h, e)
+
+  made-in : (g : Gave) (t : Tone) → GaveIn t g → (a : ℕ) (y : Signal) → MadeIn t a y (makeOf w c g t a y)
+  unfolding makeOf
+  made-in NoSample t h a y = inl refl
+  made-in (OfRamp f (Word d)) t h a y = go (isSine (t .mode)) refl
+    where
+      go : (b : Bool) → isSine (t .mode) ≡ b → MadeIn t a y (cond b (sineAfter w c (counterAt f t (y .counter)) a false y) (signalAfter (Word d) false (y .counter) y))
+      go true e = sine-in t e (counterAt f t (y .counter)) a y
+      go false e = inl refl
+  made-in (OfRamp f Overflow) t h a y = absurd (true≢false h)
+  made-in OfFreeRun t h a y = sine-in t h (counterNext t (y .counter)) a y
+
+-- a countdown that is set and does not load stands above 10
+not-load : (z : List ℕ) (c level : ℕ) → loadsAt (countdown z c level) ≡ false → lead < countdown z c level
+not-load z c level l = let d = eqb-false (countdown z c level) lead l in omega (arith, le-max-left lead (word z (delayAt c level)))
+
+-- ---- one channel, from a load for level v under the settings s to the next
+
+module _ (s : List ℕ) (c v : ℕ) where
+  abbrev T : ℕ
+  T = totalFor s c v
+
+  abbrev spot : ℕ → Place
+  spot k = placeFor s c v k
+
+  -- the channel holds the copy
+  abbrev Holds : Side → Type 0
+  Holds x = Held c v s 0 0 x
+
+  -- a sample before the last
+  record At (p : Place) : Type 0 where
+    number : ℕ
+    before : number < T
+    here : p ≡ spot number
+
+  abbrev Ours : Ramp → Type 0
+  Ours Still = Unit
+  Ours (Going r) = At (r .place)
+  Ours (Free r) = freeFor s c v ≡ true
+
+  -- the ramp, if any, is that of the copy; after a reset there is none, and none can start before the next load
+  data Under (x : Side) : Type 0 where
+    holding : Holds x → Ours (rampOf (x .channel .phase)) → Under x
+    resting : x .channel .phase ≡ Rest → Under x
+    waiting : (n : Micros) → x .channel .phase ≡ Counting n Still → lead < n .0 → Under x
+
+  -- ---- what is no tick
+
+  -- phase, copy and words decide
+  kept-under : (x y : Side) → y .channel .phase ≡ x .channel .phase → y .channel .loaded ≡ x .channel .loaded
+      → SameTable (y .tables) (firstOf c) (x .tables) (firstOf c) → Under x → Under y
+  kept-under x y e f g (holding h o) = holding (record { loaded = f ∙ h .loaded; table = λ i k. g i k ∙ h .table i k }) (rw e o)
+  kept-under x y e f g (resting d) = resting (e ∙ d)
+  kept-under x y e f g (waiting n d l) = waiting n (e ∙ d) l
+
+  untimed-under : (x : Side) (ys : List C.Act) → C.ticksIn ys ≡ 0 → 128 * c + 128 ≤ length (x .tables) → Under x → Under (C.run c x ys)
+  untimed-under x ys e h u = let r = untimed-ramp c x ys e in kept-under x (C.run c x ys) (r .0) (r .1) (untimed-table c x ys e h) u
+
+  -- a trigger that does not load
+  triggered-under : (z : List ℕ) (x : Side) (level : ℕ) → loadsAt (countdown z c level) ≡ false → Under x → Under (triggered z (x .tables) c (x .channel) level)
+  unfolding triggered
+  triggered-under z x level l u = rw l (go u)
+    where
+      far : lead < countdown z c level
+      far = not-load z c level l
+
+      go : Under x → Under (side (counting (x .channel) level (countdown z c level)) (x .tables))
+      go (holding h o) = holding (record { loaded = h .loaded; table = h .table }) o
+      go (resting d) = waiting _ (ap (λ (p : Phase). Counting _ (rampOf p)) d) far
+      go (waiting n d g) = waiting _ (ap (λ (p : Phase). Counting _ (rampOf p)) d) far
+
+  -- the load
+  load-under : (x : Side) → 128 * c + 128 ≤ length (x .tables) → Under (load s (x .tables) c (x .channel) v)
+  unfolding load
+  load-under x r = holding (loads c v s 0 0 x r) tt
+
+  -- ---- the samples, all of them in range
+
+  module _ (fits : InRange s c v) where
+    sum-in : (x : Side) → Holds x → (k : ℕ) → k ≤ T → overflows (sampleAt (x .tables) (firstOf c) (x .channel .loaded) (spot k)) ≡ false
+    sum-in x h k g =
+        rw (h .loaded) (ap overflows (same-sample (x .tables) (firstOf c) s (tableFor s c v) (h .table) (loadedFor s c v) (spot k) (placed s (tableFor s c v) k)) ∙ fits k g)
+
+    record Steps (ld : Loaded) (m : Moved) : Type 0 where
+      ours : Ours (m .ramp)
+      gave : GaveIn (ld .tone) (m .gave)
+
+    -- the ramp once sample k is given
+    onward-ours : (ld : Loaded) (period k : ℕ) → ld ≡ loadedFor s c v → k ≤ T → Ours (onward ld period (spot k))
+    unfolding ended
+    onward-ours ld period k e h = go (eqb (spot k .left .0) 0) refl
+      where
+        free : (r : Way) (b : Bool) → freeFor s c v ≡ b → Ours (cond b (Free r) Still)
+        free r true q = q
+        free r false q = tt
+
+        less : (b : Bool) → ltb k T ≡ b → eqb (spot k .left .0) 0 ≡ false → k < T
+        less true r q = ltb-true k T r
+        less false r q = absurd (eqb-false (spot k .left .0) 0 q (place-last s (tableFor s c v) k (omega (arith, ltb-false))))
+
+        go : (b : Bool) → eqb (spot k .left .0) 0 ≡ b → Ours (cond b (ended ld period (spot k)) (Going (way (spot k) period period)))
+        go true q = rw e (free _ (freeFor s c v) refl)
+        go false q = record { number = k; before = less (ltb k T) refl q; here = refl }
+
+    sample-steps : (x : Side) → Holds x → (isFirst : Bool) (period k : ℕ) → k ≤ T → (p : Place) → p ≡ spot k
+        → Steps (x .channel .loaded) (given isFirst (x .tables) (firstOf c) (x .channel .loaded) period p (x .channel .shown))
+    unfolding given
+    sample-steps x h isFirst period k g p e = rw e (record { ours = onward-ours (x .channel .loaded) period k (h .loaded) g; gave = sum-in x h k g })
+
+    next-spot : (x : Side) → Holds x → (k : ℕ) → k < T → next (x .tables) (firstOf c) (spot k) ≡ spot (k + 1)
+    next-spot x h k g =
+        same-next (x .tables) (firstOf c) s (tableFor s c v) (h .table) (spot k) (placed s (tableFor s c v) k .inner (place-more s (tableFor s c v) k g))
+        ∙ place-step s (tableFor s c v) k g
+
+    first-spot : (x : Side) → Holds x → enter (x .tables) (firstOf c) 0 ≡ spot 0
+    first-spot x h = same-enter (x .tables) (firstOf c) s (tableFor s c v) (h .table) 0 (omega arith) ∙ place-first s (tableFor s c v)
+
+    ramp-steps : (x : Side) → Holds x → (r : Ramp) → Ours r → Steps (x .channel .loaded) (advance (x .tables) (firstOf c) (x .channel .loaded) r (x .channel .shown))
+    unfolding advance
+    ramp-steps x h Still o = record { ours = tt; gave = tt }
+    ramp-steps x h (Going r) o =
+        choose (Steps (x .channel .loaded)) (ltb 1 (r .wait .0)) _ _ (record { ours = o; gave = tt })
+        (sample-steps x h false (r .period .0) (o .number + 1) (omega (arith, o .before)) _
+        (ap (λ (p : Place). next (x .tables) (firstOf c) p) (o .here) ∙ next-spot x h (o .number) (o .before)))
+    ramp-steps x h (Free r) o =
+        choose (Steps (x .channel .loaded)) (ltb 1 (r .wait .0)) _ _ (record { ours = o; gave = tt })
+        (record { ours = o; gave = rw (h .loaded) (and-left (sineFor s c v) _ o) })
+
+    -- ---- a tick's first pass
+
+    record Safe (ch : Channel) (m : Move) : Type 0 where
+      under : Under (side (m .channel) (m .tables))
+      gave : GaveIn (ch .loaded .tone) (m .gave)
+      loaded : m .channel .loaded ≡ ch .loaded
+      signal : m .channel .signal ≡ ch .signal
+
+    -- the ramp moves on, in a phase that it runs in
+    step-safe : (x : Side) → Holds x → (f : Ramp → Phase) → ((r : Ramp) → rampOf (f r) ≡ r) → (m : Moved) → Steps (x .channel .loaded) m
+        → Safe (x .channel) (move (with (x .channel) (f (m .ramp)) (m .shown)) (x .tables) (m .gave))
+    step-safe x h f e m y =
+        record {
+          under = holding (record { loaded = h .loaded; table = h .table }) (rw (e (m .ramp)) (y .ours));
+          gave = y .gave;
+          loaded = refl;
+          signal = refl;
+        }
+
+    start-safe : (z : List ℕ) (x : Side) → Holds x → Safe (x .channel) (start z (x .tables) c (x .channel))
+    unfolding start
+    start-safe z x h =
+        choose (Safe (x .channel)) (eqb (word z (enableAt c)) 1) _ _
+        (step-safe x h phaseOf ramp-phase _ (sample-steps x h true (lasting 1) 0 (omega arith) _ (first-spot x h)))
+        (record { under = holding (record { loaded = h .loaded; table = h .table }) tt; gave = tt; loaded = refl; signal = refl })
+
+    -- no load is reached
+    move-safe : (z : List ℕ) (x : Side) → Under x → (p : Phase) → x .channel .phase ≡ p → loadsAt (toStart p - 1) ≡ false
+        → Safe (x .channel) (moveAt p z (x .tables) c (x .channel))
+    unfolding moveAt countTo advance
+    move-safe z x (holding h o) Rest e l = record { under = holding (record { loaded = h .loaded; table = h .table }) o; gave = tt; loaded = refl; signal = refl }
+    move-safe z x (holding h o) (Counting n older) e l = go (eqb (n .0 - 1) 0)
+      where
+        abbrev m : Moved
+        m = advance (x .tables) (firstOf c) (x .channel .loaded) older (x .channel .shown)
+
+        go : (b : Bool) → Safe (x .channel) (cond b (start z (x .tables) c (x .channel))
+            (cond (loadsAt (n .0 - 1)) (quiet (load z (x .tables) c (x .channel) (x .channel .level)))
+            (move (with (x .channel) (Counting (record { 0 = n .0 - 1 }) (m .ramp)) (m .shown)) (x .tables) (m .gave))))
+        go true = start-safe z x h
+        go false = rw l (step-safe x h (Counting (record { 0 = n .0 - 1 })) (λ r. refl) m (ramp-steps x h older (rw e at o)))
+    move-safe z x (holding h o) (Running r) e l = step-safe x h phaseOf ramp-phase _ (ramp-steps x h (Going r) (rw e at o))
+    move-safe z x (holding h o) (FreeRunning r) e l = step-safe x h phaseOf ramp-phase _ (ramp-steps x h (Free r) (rw e at o))
+    move-safe z x (resting d) p e l =
+        let f : p ≡ Rest = sym e ∙ d in
+        rw f (record { under = resting d; gave = tt; loaded = refl; signal = refl })
+    move-safe z x (waiting n d g) p e l =
+        let f : p ≡ Counting n Still = sym e ∙ d in
+        let k : loadsAt (n .0 - 1) ≡ false = rw f at l in
+        let q = eqb-false (n .0 - 1) lead k in
+        rw (f, ne-eqb (n .0 - 1) 0 (λ b. absurd (omega arith)), k)
+        (record { under = waiting (record { 0 = n .0 - 1 }) refl (omega arith); gave = tt; loaded = refl; signal = refl })
+
+    -- ---- the whole tick
+
+    -- what the second pass makes is no part of it
+    sounded-under : (ch : Channel) (l : List ℕ) (g : Signal) → Under (side ch l) → Under (side (withSignal ch g) l)
+    sounded-under ch l g u = kept-under (side ch l) (side (withSignal ch g) l) refl refl (λ i h. refl) u
+
+    module _ (z w : List ℕ) (x : Side) (u : Under x) (none : loadsAt (toStart (x .channel .phase) - 1) ≡ false) where
+      abbrev safe : Safe (x .channel) (moveOf z (x .tables) c (x .channel))
+      safe = move-safe z x u (x .channel .phase) refl none
+
+      tick-under : Under (tickOf z w (x .tables) c (x .channel))
+      unfolding tickOf
+      tick-under = sounded-under _ _ _ (safe .under)
+
+      tick-told : outAmong (byTick w z (x .tables) c (x .channel)) ≡ false
+      tick-told = moved-told w z (x .tables) c (x .channel) (x .channel .loaded .tone) (x .channel .phase) (safe .gave)
+
+      tick-counted : Counted c w (x .channel) (tickOf z w (x .tables) c (x .channel) .channel)
+      unfolding tickOf
+      tick-counted = rw (safe .loaded, safe .signal) (made-in c w _ (x .channel .loaded .tone) (safe .gave) _ (x .channel .signal))
+
+-- ---- the card's channel c
+
+or-none : (a b : Bool) → a || b ≡ false → (a ≡ false) × (b ≡ false)
+or-none false b e = (refl, e)
+or-none true b e = absurd (true≢false e)
+
+or-left : (a b : Bool) → a || b ≡ true → b ≡ false → a ≡ true
+or-left true b e f = refl
+or-left false b e f = absurd (true≢false (sym e ∙ f))
+
+out-append : (hs js : List Happening) → outAmong hs ≡ false → outAmong js ≡ false → outAmong (hs ++ js) ≡ false
+out-append [] js p q = q
+out-append (Load ld ∷ hs) js p q = out-append hs js p q
+out-append (Sample w f x u ∷ hs) js p q = let r = or-none (overflows u) (outAmong hs) p in rw (r .0) (out-append hs js (r .1) q)
+out-append (FreeSample w ∷ hs) js p q = out-append hs js p q
+out-append (Output v ∷ hs) js p q = out-append hs js p q
+out-append (Clear ∷ hs) js p q = out-append hs js p q
+out-append (Fresh ∷ hs) js p q = out-append hs js p q
+
+-- triggers and words give no samples
+trigger-told : (r : Holder) (s : List ℕ) (c : ℕ) → outAmong (byTrigger r s c) ≡ false
+trigger-told (Level l) s c = choose (λ hs. outAmong hs ≡ false) (loadsAt (countdown s c l)) _ _ refl refl
+trigger-told Nobody s c = refl
+
+words-told : (c a : ℕ) (vs : List ℕ) → outAmong (byWords c a vs) ≡ false
+words-told c a [] = refl
+words-told c a (v ∷ vs) =
+    out-append (byWord c a v) (byWords c (a + 1) vs)
+    (choose None (eqb a (base c + 0xA04)) _ _ refl (choose None (eqb a (base c + 0xA39)) _ _ refl refl))
+    (words-told c (a + 1) vs)
+  where
+    None : List Happening → Type 0
+    None hs = outAmong hs ≡ false
+
+module _ (s : List ℕ) (c v : ℕ) (inside : c < 4) where
+  abbrev UnderIn : State → Type 0
+  UnderIn y = Under s c v (sideAt y c)
+
+  -- an accepted trigger that does not load channel c
+  struck-under : (y : State) (level event : ℕ) → 512 ≤ length (y .tables) → loadsAt (countdown (y .settings) c level) ≡ false → UnderIn y → UnderIn (triggerOf y level event)
+  struck-under y level event room l u =
+      subst (Under s c v) (trigger-goes y level event c t)
+      (untimed-under s c v _ (t .after) (t .none-after) (omega (arith, long, trigger-length (y .settings) (t .mid) c (channelOf (y .card) c) level))
+      (triggered-under s c v (y .settings) (side (channelOf (y .card) c) (t .mid)) level l
+      (subst (Under s c v) (t .comes) (untimed-under s c v (sideAt y c) (t .before) (t .none) (omega arith) u))))
+    where
+      t : TriggerTurn y level c
+      t = trigger-turn y level c inside
+
+      long : length (t .mid) ≡ length (y .tables)
+      long = sym (ap (λ (x : Side). length (x .tables)) (t .comes)) ∙ run-length c (sideAt y c) (t .before)
+
+  module _ (fits : InRange s c v) where
+    -- a tick that does not load it by counting
+    module _ (w : List ℕ) (y : State) (h : Sound y) (u : UnderIn y) (l : loadAmong (inTick w y c) ≡ false) where
+      t : TickTurn w y c
+      t = tick-turn w y c inside
+
+      long : length (t .mid) ≡ length (y .tables)
+      long = sym (ap (λ (x : Side). length (x .tables)) (t .comes)) ∙ run-length c (sideAt y c) (t .before)
+
+      none : loadsAt (toStart (channelOf (y .card) c .phase) - 1) ≡ false
+      none = sym (tick-loads w (y .settings) (y .tables) c (channelOf (y .card) c) (channelOf (y .card) c .phase)) ∙ l
+
+      mid : Under s c v (side (channelOf (y .card) c) (t .mid))
+      mid = subst (Under s c v) (t .comes) (untimed-under s c v (sideAt y c) (t .before) (t .none) (omega (arith, h .tables .many)) u)
+
+      advanced-under : UnderIn (advanced w y)
+      advanced-under =
+          subst (Under s c v) (tick-goes w y c t)
+          (untimed-under s c v _ (t .after) (t .none-after) (omega (arith, long, h .tables .many, tick-length (y .settings) (t .mid) c (channelOf (y .card) c) w))
+          (tick-under s c v fits (y .settings) w (side (channelOf (y .card) c) (t .mid)) mid none))
+
+      advanced-told : outAmong (inTick w y c) ≡ false
+      advanced-told = tick-told s c v fits (y .settings) w (sideAt y c) u none
+
+      advanced-counted : Counted c w (channelOf (y .card) c) (channelOf (advanced w y .card) c)
+      advanced-counted = rw (tick-same w y c t) at (tick-counted s c v fits (y .settings) w (side (channelOf (y .card) c) (t .mid)) mid none)
+
+    -- ---- any act
+
+    record Goes (y : State) (z : Act) : Type 0 where
+      under : UnderIn (act y z)
+      told : outAmong (happens c y z) ≡ false
+
+    act-goes : (y : State) → Sound y → UnderIn y → (z : Act) → loadAmong (happens c y z) ≡ false → Goes y z
+    act-goes y h u (Tick w event) l = go (triggerBy y (Tick w event)) refl
+      where
+        two : (loadAmong (inTick w y c) ≡ false) × (loadAmong (atTrigger y (Tick w event) c) ≡ false)
+        two = or-none _ _ (sym (load-append (inTick w y c) (atTrigger y (Tick w event) c)) ∙ l)
+
+        told : outAmong (happens c y (Tick w event)) ≡ false
+        told = out-append (inTick w y c) _ (advanced-told w y h u (two .0)) (trigger-told (triggerBy y (Tick w event)) (y .settings) c)
+
+        after : UnderIn (advanced w y)
+        after = advanced-under w y h u (two .0)
+
+        go : (r : Holder) → triggerBy y (Tick w event) ≡ r → Goes y (Tick w event)
+        go (Level level) e =
+            record {
+              under =
+                  rw (trigger-is y (Tick w event) level e)
+                  (struck-under (advanced w y) level event (omega (arith, advanced-room w y, h .tables .many))
+                  (ap (λ (z : List ℕ). loadsAt (countdown z c level)) (advanced-settings w y) ∙ sym (trigger-loads (y .settings) c level) ∙ (rw e at (two .1))) after);
+              told = told;
+            }
+        go Nobody e = record { under = rw (quiet-tick w y event e) after; told = told }
+    act-goes y h u (Write start count ws) l = go (triggerBy y (Write start count ws)) refl
+      where
+        two : (loadAmong (atTrigger y (Write start count ws) c) ≡ false) × (loadAmong (byWords c start (wordsDone y start count ws)) ≡ false)
+        two = or-none _ _ (sym (load-append (atTrigger y (Write start count ws) c) (byWords c start (wordsDone y start count ws))) ∙ l)
+
+        told : outAmong (happens c y (Write start count ws)) ≡ false
+        told = out-append (atTrigger y (Write start count ws) c) _ (trigger-told (triggerBy y (Write start count ws)) (y .settings) c) (words-told c start (wordsDone y start count ws))
+
+        go : (r : Holder) → triggerBy y (Write start count ws) ≡ r → Goes y (Write start count ws)
+        go (Level level) e =
+            record {
+              under =
+                  rw (trigger-is y (Write start count ws) level e)
+                  (struck-under y level 0xFE (omega (arith, h .tables .many)) (sym (trigger-loads (y .settings) c level) ∙ (rw e at (two .0))) u);
+              told = told;
+            }
+        go Nobody e =
+            let p = write-part c inside y start count ws (h .card .four) e in
+            record { under = subst (Under s c v) (p .runs) (untimed-under s c v (sideAt y c) (p .acts) (p .none) (omega (arith, h .tables .many)) u); told = told }
+    act-goes y h u (Ask what) l = record { under = u; told = refl }
+    act-goes y h u (HandIn to ws) l = record { under = u; told = refl }
+    act-goes y h u Reset l = record { under = resting (ap (λ (ch : Channel). ch .phase) (four-fresh c inside)); told = refl }
+
+    record GoesOn (y : State) (ys : List Act) : Type 0 where
+      sound : Sound (acts y ys)
+      under : UnderIn (acts y ys)
+      told : outAmong (story c y ys) ≡ false
+
+    acts-go : (y : State) → Sound y → UnderIn y → (ys : List Act) → Words16 ys → loadAmong (story c y ys) ≡ false → GoesOn y ys
+    acts-go y h u [] w l = record { sound = h; under = u; told = refl }
+    acts-go y h u (z ∷ zs) w l =
+        let two = or-none _ _ (sym (load-append (happens c y z) (story c (act y z) zs)) ∙ l) in
+        let r = one-sound y z zs w h in
+        let g = act-goes y h u z (two .0) in
+        let n = acts-go (act y z) (r .0) (g .under) zs (r .1) (two .1) in
+        record { sound = n .sound; under = n .under; told = out-append (happens c y z) _ (g .told) (n .told) }
+
+-- ---- the load
+
+module _ (c : ℕ) (inside : c < 4) where
+  -- at a trigger
+  struck-load : (y : State) (level event : ℕ) → 512 ≤ length (y .tables) → loadsAt (countdown (y .settings) c level) ≡ true
+      → Under (y .settings) c level (sideAt (triggerOf y level event) c)
+  struck-load y level event room l =
+      subst (Under (y .settings) c level) (trigger-goes y level event c t)
+      (untimed-under (y .settings) c level _ (t .after) (t .none-after) (omega (arith, long, trigger-length (y .settings) (t .mid) c (channelOf (y .card) c) level)) at-load)
+    where
+      t : TriggerTurn y level c
+      t = trigger-turn y level c inside
+
+      long : length (t .mid) ≡ length (y .tables)
+      long = sym (ap (λ (x : Side). length (x .tables)) (t .comes)) ∙ run-length c (sideAt y c) (t .before)
+
+      at-load : Under (y .settings) c level (triggered (y .settings) (t .mid) c (channelOf (y .card) c) level)
+      unfolding triggered
+      at-load = rw l (load-under (y .settings) c level (side (channelOf (y .card) c) (t .mid)) (omega (arith, long)))
+
+  -- by counting
+  counted-load : (w : List ℕ) (y : State) → 512 ≤ length (y .tables) → loadAmong (inTick w y c) ≡ true
+      → Under (y .settings) c (channelOf (y .card) c .level) (sideAt (advanced w y) c)
+  counted-load w y room l =
+      subst (Under (y .settings) c (ch .level)) (tick-goes w y c t)
+      (untimed-under (y .settings) c (ch .level) _ (t .after) (t .none-after) (omega (arith, long, tick-length (y .settings) (t .mid) c ch w))
+      (at-load (ch .phase) refl (sym (tick-loads w (y .settings) (y .tables) c ch (ch .phase)) ∙ l)))
+    where
+      ch : Channel
+      ch = channelOf (y .card) c
+
+      t : TickTurn w y c
+      t = tick-turn w y c inside
+
+      long : length (t .mid) ≡ length (y .tables)
+      long = sym (ap (λ (x : Side). length (x .tables)) (t .comes)) ∙ run-length c (sideAt y c) (t .before)
+
+      at-load : (p : Phase) → ch .phase ≡ p → loadsAt (toStart p - 1) ≡ true → Under (y .settings) c (ch .level) (tickOf (y .settings) w (t .mid) c ch)
+      at-load (Counting n older) e q =
+          let d = eqb-true (n .0 - 1) lead q in
+          rw (tick-load (y .settings) (t .mid) c ch w (n .0) older e (omega arith)) (load-under (y .settings) c (ch .level) (side ch (t .mid)) (omega (arith, long)))
+      at-load Rest e q = absurd (true≢false (sym q))
+      at-load (Running r) e q = absurd (true≢false (sym q))
+      at-load (FreeRunning r) e q = absurd (true≢false (sym q))
+
+  -- the level of a load, and what it leaves
+  record LoadOf (st : State) (x : Act) : Type 0 where
+    level : ℕ
+    small : level < 32
+    under : Under (st .settings) c level (sideAt (act st x) c)
+
+  trigger-small : (st : State) (x : Act) (level : ℕ) → triggerBy st x ≡ Level level → Sound (act st x) → level < 32
+  trigger-small st x level e h =
+      subst (λ n. n < 32) (ap (λ (k : Cause). k .level) (ap (λ (z : State). z .card .pending) (trigger-is st x level e) ∙ trigger-pending (justBefore st x) level (eventBy x))) (h .card .pending .level)
+
+  at-trigger : (st : State) (x : Act) (level : ℕ) → triggerBy st x ≡ Level level → Sound st → Sound (act st x) → loadsAt (countdown (st .settings) c level) ≡ true → LoadOf st x
+  at-trigger st x level e h g l =
+      record {
+        level = level;
+        small = trigger-small st x level e g;
+        under =
+            rw (trigger-is st x level e)
+            (rw (before-settings st x) at (struck-load (justBefore st x) level (eventBy x) (omega (arith, before-room st x, h .tables .many)) (rw (before-settings st x) l)));
+      }
+
+  load-of : (st : State) → Sound st → (x : Act) → Sound (act st x) → loadAmong (happens c st x) ≡ true → LoadOf st x
+  load-of st h (Tick w event) g l = go (triggerBy st (Tick w event)) refl (sym (load-append (inTick w st c) (atTrigger st (Tick w event) c)) ∙ l)
+    where
+      room : 512 ≤ length (st .tables)
+      room = omega (arith, h .tables .many)
+
+      go : (r : Holder) → triggerBy st (Tick w event) ≡ r → loadAmong (inTick w st c) || loadAmong (byTrigger (triggerBy st (Tick w event)) (st .settings) c) ≡ true → LoadOf st (Tick w event)
+      go (Level level) e q = by (loadsAt (countdown (st .settings) c level)) refl
+        where
+          by : (b : Bool) → loadsAt (countdown (st .settings) c level) ≡ b → LoadOf st (Tick w event)
+          by true d = at-trigger st (Tick w event) level e h g d
+          by false d =
+              record {
+                level = channelOf (st .card) c .level;
+                small = h .card .channels c .level;
+                under =
+                    rw (trigger-is st (Tick w event) level e)
+                    (struck-under (st .settings) c (channelOf (st .card) c .level) inside (advanced w st) level event (omega (arith, advanced-room w st, room))
+                    (ap (λ (z : List ℕ). loadsAt (countdown z c level)) (advanced-settings w st) ∙ d)
+                    (counted-load w st room (or-left _ _ q (rw e (trigger-loads (st .settings) c level ∙ d)))));
+              }
+      go Nobody e q =
+          record {
+            level = channelOf (st .card) c .level;
+            small = h .card .channels c .level;
+            under = rw (quiet-tick w st event e) (counted-load w st room (or-left _ _ q (rw e)));
+          }
+  load-of st h (Write start count ws) g l = go (triggerBy st (Write start count ws)) refl at-once
+    where
+      words : List Happening
+      words = byWords c start (wordsDone st start count ws)
+
+      at-once : loadAmong (byTrigger (triggerBy st (Write start count ws)) (st .settings) c) ≡ true
+      at-once = or-left _ _ (sym (load-append (atTrigger st (Write start count ws) c) words) ∙ l) (words-load c start (wordsDone st start count ws))
+
+      go : (r : Holder) → triggerBy st (Write start count ws) ≡ r → loadAmong (byTrigger (triggerBy st (Write start count ws)) (st .settings) c) ≡ true → LoadOf st (Write start count ws)
+      go (Level level) e q = at-trigger st (Write start count ws) level e h g (sym (trigger-loads (st .settings) c level) ∙ (rw e at q))
+      go Nobody e q = absurd (true≢false (sym (rw e at q)))
+  load-of st h (Ask what) g l = absurd (true≢false (sym l))
+  load-of st h (HandIn to ws) g l = absurd (true≢false (sym l))
+  load-of st h Reset g l = absurd (true≢false (sym l))
+
+-- ---- from the load on
+
+module _ (c : ℕ) (st : State) (x : Act) (ys : List Act) (p : PassedLoad c st x ys) where
+  next : Sound (act st x) × Words16 ys
+  next = one-sound st x ys (p .words) (p .sound)
+
+  abbrev load : LoadOf c (p .inside) st x
+  load = load-of c (p .inside) st (p .sound) x (next .0) (p .loads)
+
+  fits : InRange (st .settings) c (load .level)
+  fits = verdict-right (st .settings) .passes (p .passed) c (load .level) (p .inside) (load .small)
+
+  goes : GoesOn (st .settings) c (load .level) (p .inside) fits (act st x) ys
+  goes = acts-go (st .settings) c (load .level) (p .inside) fits (act st x) (next .0) (load .under) ys (next .1) (p .untilNext)
+
+  -- and then a tick
+  abbrev y : State
+  y = acts (act st x) ys
+
+  ticked : (w : List ℕ) (event : ℕ) → loadAmong (happens c y (Tick w event)) ≡ false → NoSumCounted c w y (act y (Tick w event))
+  ticked w event l = rw (overflow-register c (p .inside)) (go (triggerBy y (Tick w event)) refl)
+    where
+      two : (loadAmong (inTick w y c) ≡ false) × (loadAmong (atTrigger y (Tick w event) c) ≡ false)
+      two = or-none _ _ (sym (load-append (inTick w y c) (atTrigger y (Tick w event) c)) ∙ l)
+
+      moved : Counted c w (channelOf (y .card) c) (channelOf (advanced w y .card) c)
+      moved = advanced-counted (st .settings) c (load .level) (p .inside) fits w y (goes .sound) (goes .under) (two .0)
+
+      go : (r : Holder) → triggerBy y (Tick w event) ≡ r → Counted c w (channelOf (y .card) c) (channelOf (act y (Tick w event) .card) c)
+      go (Level level) e =
+          let far : lead < countdown (act y (Tick w event) .settings) c level =
+              rw (struck-settings y (Tick w event) level e, before-settings y (Tick w event))
+              (not-load (y .settings) c level (sym (trigger-loads (y .settings) c level) ∙ (rw e at (two .1)))) in
+          rw (older-goes-on .signal y (Tick w event) level e c (p .inside) far, older-goes-on .shown y (Tick w event) level e c (p .inside) far) moved
+      go Nobody e = rw (quiet-tick w y event e) moved
+
+-- A RAMP LOADED UNDER SETTINGS THAT PASS HAS NO SUM OUT OF RANGE, UNTIL THE NEXT LOAD
+pub never-out : NeverOut
+never-out = record { sums = λ c st x ys p. goes c st x ys p .told; count = ticked }

@@ -1,0 +1,72 @@
+-- The verdict is the request's (`verdict-right`): it passes exactly where every sample of every ramp is in range, and names the first channel,
+-- then level, where one is not. Assumes nothing.
+use mathlib.Core.Path.{_≡_, refl, sym, _∙_, subst}
+use mathlib.Core.Bool.{Bool, true, false, cond}
+use mathlib.Core.List.{List}
+use Prim.Native.Nat.{ℕ, _+_, _≤_, _<_}
+use native.Mathlib.Omega.{arith}
+use Rattle.channel.specs.Channel.{loadedFor}
+use Rattle.course.specs.Follows.{tableFor, totalFor, sumFor}
+use Rattle.profile.specs.declared.Break.{Break}
+use Rattle.profile.specs.declared.Verdict.{Verdict}
+use Rattle.profile.specs.declared.Verdict.the-variants.{Passes, Breaks}
+use Rattle.profile.specs.Profile.{keeps, breakOf, levelVerdict, channelVerdict, verdictOf}
+use Rattle.profile.specs.Laws.{InRange, AllInRange, FirstBreak, VerdictRight}
+use Rattle.profile.proofs.Search.{each-in, in-each, Named, all-pass, each-passes, first-named}
+use Rattle.profile.proofs.Points.{Broken, broken, steps-most}
+
+module _ (s : List ℕ) where
+  -- ---- one ramp
+
+  level-in : (c level : ℕ) → levelVerdict s c level ≡ Passes → InRange s c level
+  unfolding levelVerdict keeps
+  level-in c level e k h = in-each (sumFor s c level) (totalFor s c level + 1) (go (keeps s c level) refl e) k (omega arith)
+    where
+      go : (x : Bool) → keeps s c level ≡ x → cond x Passes (Breaks (breakOf s c level)) ≡ Passes → keeps s c level ≡ true
+      go true q u = q
+      go false q u = let z : _≡_ {A = ℕ} 0 1 = cc in absurd (omega arith)
+
+  in-level : (c level : ℕ) → InRange s c level → levelVerdict s c level ≡ Passes
+  unfolding levelVerdict keeps
+  in-level c level h = rw (each-in (sumFor s c level) (totalFor s c level + 1) (λ k g. h k (omega arith)))
+
+  -- ---- a channel, and all four
+
+  channel-in : (c : ℕ) → channelVerdict s c ≡ Passes → (level : ℕ) → level < 32 → InRange s c level
+  unfolding channelVerdict
+  channel-in c e level h = level-in c level (each-passes (levelVerdict s c) 0 32 e level (omega arith) (omega arith))
+
+  all-in : verdictOf s ≡ Passes → AllInRange s
+  unfolding verdictOf
+  all-in e c level h g = channel-in c (each-passes (channelVerdict s) 0 4 e c (omega arith) (omega arith)) level g
+
+  in-all : AllInRange s → verdictOf s ≡ Passes
+  unfolding verdictOf channelVerdict
+  in-all h = all-pass (channelVerdict s) 0 4 (λ c l g. all-pass (levelVerdict s c) 0 32 (λ level m f. in-level c level (h c level (omega arith) (omega arith))))
+
+  -- ---- the first that breaks
+
+  first-level : (b : Break) (x : Named (channelVerdict s) 0 4 b) → Named (levelVerdict s (x .place)) 0 32 b → FirstBreak s b
+  first-level b x y =
+      let c = x .place in
+      let level = y .place in
+      let r = broken s c level b (y .names) in
+      subst (FirstBreak s) (sym (r .is)) (record {
+        channel = omega (arith, x .below);
+        level = omega (arith, y .below);
+        channels = λ d v l g. channel-in d (x .earlier d (omega arith) l) v g;
+        levels = λ v l. level-in c v (y .earlier v (omega arith) l);
+        table = refl;
+        point = r .point;
+        sample = steps-most s (tableFor s c level) (b .point) (r .point);
+        out = r .out;
+        points = r .earlier;
+      })
+
+  first-break : (b : Break) → verdictOf s ≡ Breaks b → FirstBreak s b
+  unfolding verdictOf channelVerdict
+  first-break b e = let x = first-named (channelVerdict s) 0 4 b e in first-level b x (first-named (levelVerdict s (x .place)) 0 32 b (x .names))
+
+  -- THE VERDICT IS THE REQUEST'S
+  pub verdict-right : VerdictRight s
+  verdict-right = record { passes = all-in; passes-only = in-all; breaks = first-break }

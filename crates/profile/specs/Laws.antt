@@ -1,0 +1,41 @@
+-- The verdict in the request's words: 'passes a bench exactly when, for every channel and level, every sample of its ramp has a sum in
+-- range. Otherwise it names the first channel, then level, that breaks this.'
+use mathlib.Core.Path.{_≡_}
+use mathlib.Core.Bool.{true, false}
+use mathlib.Core.List.{List}
+use Prim.Native.Nat.{ℕ, _≤_, _<_}
+use Rattle.word.specs.Table.{stepsBefore}
+use Rattle.channel.specs.Signal.{overflows}
+use Rattle.channel.specs.Channel.{loadedFor}
+use Rattle.course.specs.Points.{endPoint}
+use Rattle.course.specs.Follows.{tableFor, totalFor, sumFor}
+use Rattle.profile.specs.declared.Break.{Break}
+use Rattle.profile.specs.declared.Verdict.the-variants.{Passes, Breaks}
+use Rattle.profile.specs.Profile.{pointSum, verdictOf}
+
+-- 'every sample of its ramp has a sum in range', for channel c and a level
+abbrev pub InRange : List ℕ → ℕ → ℕ → Type 0
+InRange s c level = (k : ℕ) → k ≤ totalFor s c level → overflows (sumFor s c level k) ≡ false
+
+-- 'for every channel and level'
+abbrev pub AllInRange : List ℕ → Type 0
+AllInRange s = (c level : ℕ) → c < 4 → level < 32 → InRange s c level
+
+-- the first channel, then level, that breaks this; and in its table the first point
+pub record FirstBreak (s : List ℕ) (b : Break) : Type 0 where
+  pub channel : b .channel < 4
+  pub level : b .level < 32
+  pub channels : (c level : ℕ) → c < b .channel → level < 32 → InRange s c level
+  pub levels : (level : ℕ) → level < b .level → InRange s (b .channel) level
+  pub table : b .table ≡ loadedFor s (b .channel) (b .level) .table
+  -- a point up to the ramp's end, whose sample is one of the T + 1, and out of range
+  pub point : b .point ≤ endPoint s (tableFor s (b .channel) (b .level))
+  pub sample : stepsBefore s (tableFor s (b .channel) (b .level)) (b .point) ≤ totalFor s (b .channel) (b .level)
+  pub out : overflows (pointSum s (b .channel) (b .level) (b .point)) ≡ true
+  pub points : (n : ℕ) → n < b .point → overflows (pointSum s (b .channel) (b .level) n) ≡ false
+
+-- of any settings
+pub record VerdictRight (s : List ℕ) : Type 0 where
+  pub passes : verdictOf s ≡ Passes → AllInRange s
+  pub passes-only : AllInRange s → verdictOf s ≡ Passes
+  pub breaks : (b : Break) → verdictOf s ≡ Breaks b → FirstBreak s b

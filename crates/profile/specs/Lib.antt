@@ -1,0 +1,3 @@
+pub mod Profile
+pub mod Points
+pub mod Laws
