@@ -4,7 +4,7 @@ use mathlib.Core.Path.{_≡_, refl, sym, ap, _∙_, subst}
 use mathlib.Core.Bool.{Bool, true, false, _&&_, _||_, cond, true≢false}
 use mathlib.Core.Logic.{_⊎_, inl, inr}
 use mathlib.Core.List.{List, [], _∷_, _++_}
-use Prim.Native.Nat.{ℕ, zero, suc, _+_, _*_, _-_, _≤_, _<_}
+use Prim.Native.Nat.{ℕ, _+_, _*_, _-_, _≤_, _<_}
 use native.Mathlib.Omega.{arith}
 use native.Mathlib.Nat.{le-max-left}
 use lib.Dec.{ltb, eqb}
@@ -39,10 +39,9 @@ use Rattle.card.specs.declared.Cause.{Cause}
 use Rattle.card.specs.Card.{State, channelOf}
 use Rattle.card.specs.Trigger.{triggerOf}
 use Rattle.card.specs.Tick.{advanced}
-use Rattle.card.specs.Reset.{resetOf}
 use Rattle.card.proofs.Ticks.{advanced-settings}
 use Rattle.course.specs.Points.{SameTable}
-use Rattle.course.specs.Follows.{tableFor, totalFor, placeFor, sumFor, sineFor, freeFor}
+use Rattle.course.specs.Follows.{tableFor, totalFor, placeFor, sineFor, freeFor}
 use Rattle.course.specs.Course as C
 use Rattle.course.proofs.Copies.{choose, tick-length, trigger-length}
 use Rattle.course.proofs.Acts.{run-length, untimed-table, untimed-ramp}
@@ -52,7 +51,7 @@ use Rattle.course.proofs.Moves.{tick-load}
 use Rattle.course.proofs.Course.{Held, loads}
 use Rattle.profile.specs.Laws.{InRange}
 use Rattle.profile.proofs.Right.{verdict-right}
-use Rattle.history.specs.History.{Act, Tick, Write, Ask, HandIn, Reset, act, acts, readBack, wordsDone, triggerBy, Words16}
+use Rattle.history.specs.History.{Act, Tick, Write, Ask, HandIn, Reset, act, acts, wordsDone, triggerBy, Words16}
 use Rattle.history.specs.Sound.{Sound}
 use Rattle.history.specs.Triggers.{eventBy}
 use Rattle.history.specs.Countdowns.{justBefore}
@@ -114,7 +113,7 @@ module _ (w z l : List ℕ) (c : ℕ) (ch : Channel) (t : Tone) where
   moved-told Rest g = refl
   moved-told (Counting n older) g = go (eqb (n .0 - 1) 0) (loadsAt (n .0 - 1)) g
     where
-      abbrev m : Moved
+      m : Moved
       m = advance l (firstOf c) (ch .loaded) older (ch .shown)
 
       go : (a b : Bool)
@@ -207,10 +206,13 @@ module _ (s : List ℕ) (c v : ℕ) where
       far : lead < countdown z c level
       far = not-load z c level l
 
+      waits : rampOf (x .channel .phase) ≡ Still → Under (side (counting (x .channel) level (countdown z c level)) (x .tables))
+      waits e = waiting (record { 0 = countdown z c level }) (ap (λ (r : Ramp). Counting (record { 0 = countdown z c level }) r) e) far
+
       go : Under x → Under (side (counting (x .channel) level (countdown z c level)) (x .tables))
       go (holding h o) = holding (record { loaded = h .loaded; table = h .table }) o
-      go (resting d) = waiting _ (ap (λ (p : Phase). Counting _ (rampOf p)) d) far
-      go (waiting n d g) = waiting _ (ap (λ (p : Phase). Counting _ (rampOf p)) d) far
+      go (resting d) = waits (ap rampOf d)
+      go (waiting n d g) = waits (ap rampOf d)
 
   -- the load
   load-under : (x : Side) → 128 * c + 128 ≤ length (x .tables) → Under (load s (x .tables) c (x .channel) v)
@@ -302,7 +304,7 @@ module _ (s : List ℕ) (c v : ℕ) where
     move-safe z x (holding h o) Rest e l = record { under = holding (record { loaded = h .loaded; table = h .table }) o; gave = tt; loaded = refl; signal = refl }
     move-safe z x (holding h o) (Counting n older) e l = go (eqb (n .0 - 1) 0)
       where
-        abbrev m : Moved
+        m : Moved
         m = advance (x .tables) (firstOf c) (x .channel .loaded) older (x .channel .shown)
 
         go : (b : Bool) → Safe (x .channel) (cond b (start z (x .tables) c (x .channel))
@@ -493,6 +495,7 @@ module _ (c : ℕ) (inside : c < 4) where
   -- at a trigger
   struck-load : (y : State) (level event : ℕ) → 512 ≤ length (y .tables) → loadsAt (countdown (y .settings) c level) ≡ true
       → Under (y .settings) c level (sideAt (triggerOf y level event) c)
+  unfolding triggered
   struck-load y level event room l =
       subst (Under (y .settings) c level) (trigger-goes y level event c t)
       (untimed-under (y .settings) c level _ (t .after) (t .none-after) (omega (arith, long, trigger-length (y .settings) (t .mid) c (channelOf (y .card) c) level)) at-load)
@@ -504,7 +507,6 @@ module _ (c : ℕ) (inside : c < 4) where
       long = sym (ap (λ (x : Side). length (x .tables)) (t .comes)) ∙ run-length c (sideAt y c) (t .before)
 
       at-load : Under (y .settings) c level (triggered (y .settings) (t .mid) c (channelOf (y .card) c) level)
-      unfolding triggered
       at-load = rw l (load-under (y .settings) c level (side (channelOf (y .card) c) (t .mid)) (omega (arith, long)))
 
   -- by counting
@@ -597,17 +599,17 @@ module _ (c : ℕ) (inside : c < 4) where
 -- ---- from the load on
 
 module _ (c : ℕ) (st : State) (x : Act) (ys : List Act) (p : PassedLoad c st x ys) where
-  next : Sound (act st x) × Words16 ys
-  next = one-sound st x ys (p .words) (p .sound)
+  then : Sound (act st x) × Words16 ys
+  then = one-sound st x ys (p .words) (p .sound)
 
-  abbrev load : LoadOf c (p .inside) st x
-  load = load-of c (p .inside) st (p .sound) x (next .0) (p .loads)
+  abbrev from : LoadOf c (p .inside) st x
+  from = load-of c (p .inside) st (p .sound) x (then .0) (p .loads)
 
-  fits : InRange (st .settings) c (load .level)
-  fits = verdict-right (st .settings) .passes (p .passed) c (load .level) (p .inside) (load .small)
+  fits : InRange (st .settings) c (from .level)
+  fits = verdict-right (st .settings) .passes (p .passed) c (from .level) (p .inside) (from .small)
 
-  goes : GoesOn (st .settings) c (load .level) (p .inside) fits (act st x) ys
-  goes = acts-go (st .settings) c (load .level) (p .inside) fits (act st x) (next .0) (load .under) ys (next .1) (p .untilNext)
+  goes : GoesOn (st .settings) c (from .level) (p .inside) fits (act st x) ys
+  goes = acts-go (st .settings) c (from .level) (p .inside) fits (act st x) (then .0) (from .under) ys (then .1) (p .untilNext)
 
   -- and then a tick
   abbrev y : State
@@ -620,7 +622,7 @@ module _ (c : ℕ) (st : State) (x : Act) (ys : List Act) (p : PassedLoad c st x
       two = or-none _ _ (sym (load-append (inTick w y c) (atTrigger y (Tick w event) c)) ∙ l)
 
       moved : Counted c w (channelOf (y .card) c) (channelOf (advanced w y .card) c)
-      moved = advanced-counted (st .settings) c (load .level) (p .inside) fits w y (goes .sound) (goes .under) (two .0)
+      moved = advanced-counted (st .settings) c (from .level) (p .inside) fits w y (goes .sound) (goes .under) (two .0)
 
       go : (r : Holder) → triggerBy y (Tick w event) ≡ r → Counted c w (channelOf (y .card) c) (channelOf (act y (Tick w event) .card) c)
       go (Level level) e =

@@ -1,19 +1,21 @@
 -- The verdict is the request's (`verdict-right`): it passes exactly where every sample of every ramp is in range, and names the first channel,
--- then level, where one is not. Assumes nothing.
-use mathlib.Core.Path.{_≡_, refl, sym, _∙_, subst}
+-- then level, where one is not. So of demand 3's samples none is held (`nothing-held`). Assumes nothing.
+use mathlib.Core.Path.{_≡_, refl, sym, subst}
 use mathlib.Core.Bool.{Bool, true, false, cond}
 use mathlib.Core.List.{List}
-use Prim.Native.Nat.{ℕ, _+_, _≤_, _<_}
+use Prim.Native.Nat.{ℕ, zero, suc, _+_, _<_}
 use native.Mathlib.Omega.{arith}
-use Rattle.channel.specs.Channel.{loadedFor}
+use Rattle.sum.specs.declared.Sum.{Sum}
+use Rattle.sum.specs.declared.Sum.the-variants.{Word, Overflow}
+use Rattle.channel.specs.Ramp.{hold}
+use Rattle.channel.specs.Signal.{overflows}
 use Rattle.course.specs.Follows.{tableFor, totalFor, sumFor}
 use Rattle.profile.specs.declared.Break.{Break}
-use Rattle.profile.specs.declared.Verdict.{Verdict}
 use Rattle.profile.specs.declared.Verdict.the-variants.{Passes, Breaks}
 use Rattle.profile.specs.Profile.{keeps, breakOf, levelVerdict, channelVerdict, verdictOf}
-use Rattle.profile.specs.Laws.{InRange, AllInRange, FirstBreak, VerdictRight}
+use Rattle.profile.specs.Laws.{InRange, AllInRange, FirstBreak, VerdictRight, NothingHeld}
 use Rattle.profile.proofs.Search.{each-in, in-each, Named, all-pass, each-passes, first-named}
-use Rattle.profile.proofs.Points.{Broken, broken, steps-most}
+use Rattle.profile.proofs.Points.{broken, steps-most}
 
 module _ (s : List ℕ) where
   -- ---- one ramp
@@ -70,3 +72,14 @@ module _ (s : List ℕ) where
   -- THE VERDICT IS THE REQUEST'S
   pub verdict-right : VerdictRight s
   verdict-right = record { passes = all-in; passes-only = in-all; breaks = first-break }
+
+-- ---- nothing is held
+
+own-word : (u : Sum) (before : ℕ) → overflows u ≡ false → u ≡ Word (hold u before)
+own-word (Word v) before e = refl
+own-word Overflow before e = let z : _≡_ {A = ℕ} 0 1 = cc in absurd (omega arith)
+
+pub nothing-held : NothingHeld
+unfolding NothingHeld
+nothing-held s c level h before zero l = own-word (sumFor s c level 0) before (h 0 l)
+nothing-held s c level h before (suc k) l = own-word (sumFor s c level (suc k)) _ (h (suc k) l)

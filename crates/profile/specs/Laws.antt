@@ -5,10 +5,12 @@ use mathlib.Core.Bool.{true, false}
 use mathlib.Core.List.{List}
 use Prim.Native.Nat.{ℕ, _≤_, _<_}
 use Rattle.word.specs.Table.{stepsBefore}
+use Rattle.sum.specs.declared.Sum.the-variants.{Word}
 use Rattle.channel.specs.Signal.{overflows}
 use Rattle.channel.specs.Channel.{loadedFor}
 use Rattle.course.specs.Points.{endPoint}
 use Rattle.course.specs.Follows.{tableFor, totalFor, sumFor}
+use Rattle.course.specs.Outputs.{latest}
 use Rattle.profile.specs.declared.Break.{Break}
 use Rattle.profile.specs.declared.Verdict.the-variants.{Passes, Breaks}
 use Rattle.profile.specs.Profile.{pointSum, verdictOf}
@@ -39,3 +41,8 @@ pub record VerdictRight (s : List ℕ) : Type 0 where
   pub passes : verdictOf s ≡ Passes → AllInRange s
   pub passes-only : AllInRange s → verdictOf s ≡ Passes
   pub breaks : (b : Break) → verdictOf s ≡ Breaks b → FirstBreak s b
+
+-- so of demand 3's 'rounded sum .. or, where that overflows, the output held just before' the second never comes: after sample k the amplitude,
+-- and in plain mode the output, is that sample's own sum, whatever stood there before the start
+unfoldable pub NothingHeld : Type 0
+NothingHeld = (s : List ℕ) (c level : ℕ) → InRange s c level → (before k : ℕ) → k ≤ totalFor s c level → sumFor s c level k ≡ Word (latest (sumFor s c level) before k)

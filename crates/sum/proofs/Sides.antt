@@ -10,8 +10,7 @@ use lib.Signed.{_≤ℤ_, ltZ}
 use Rattle.word.specs.Word.{signedOf, wordOf}
 use Rattle.word.proofs.Split.{le-split, lt-split, lt-join}
 use Rattle.word.proofs.Number.{signed-of-word}
-use Rattle.sum.specs.Fraction.{whole, along}
-use Rattle.sum.specs.Sample.{sumOf, sideOf, settled, totalOf}
+use Rattle.sum.specs.Sample.{sideOf, settled, totalOf}
 use Rattle.sum.specs.declared.Side.{Side}
 use Rattle.sum.specs.declared.Side.the-variants.{Below, Within, Above}
 use Rattle.sum.specs.declared.Sum.the-variants.{Word}
