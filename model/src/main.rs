@@ -26,7 +26,7 @@ use std::process::ExitCode;
 use card::Card;
 use program::{Lines, Program};
 use reach::Reach;
-use refused::{Refused, Teller};
+use refused::Refused;
 
 /// What the program can be asked for.
 const USAGE: &str = "no argument, or: bench, or: save, or: verdict, \
@@ -62,8 +62,8 @@ fn run(arguments: &[&str]) -> Result<(), String> {
             benches::write_all(seed, count, Path::new(directory)).map_err(said)
         }
         ["reach", program, files @ ..] => print_reach(named(program)?, files),
-        ["save"] => play_input(refused::SAVE, saved::lines).map_err(said),
-        ["verdict"] => play_input(refused::CHECK, profile::verdict).map_err(said),
+        ["save"] => telling(save).map_err(said),
+        ["verdict"] => telling(verdict).map_err(said),
         [program] => dialogue(named(program)?).map_err(said),
         _ => Err(USAGE.to_string()),
     }
@@ -93,12 +93,10 @@ fn dialogue(program: Program) -> io::Result<()> {
     Ok(())
 }
 
-/// Standard input on a reset card; what is made of the card at its end goes to
-/// standard output, what was refused to standard error.
-fn play_input(teller: Teller, made: fn(&Card) -> Vec<u8>) -> io::Result<()> {
+/// Standard input to standard output; what is told goes to standard error.
+fn telling(made: fn(File, File, BufWriter<File>) -> io::Result<()>) -> io::Result<()> {
     let [input, output] = [plain(io::stdin())?, plain(io::stdout())?];
-    let refused = Refused::new(teller, BufWriter::new(plain(io::stderr())?));
-    play(input, output, refused, made)
+    made(input, output, BufWriter::new(plain(io::stderr())?))
 }
 
 /// A plain file, so that every failed read or write is seen as one.
@@ -106,16 +104,31 @@ fn plain(stream: impl AsFd) -> io::Result<File> {
     Ok(File::from(stream.as_fd().try_clone_to_owned()?))
 }
 
-/// Plays the lines of the whole input, then writes what is made of the card.
-fn play(
-    input: impl Read,
-    mut output: impl Write,
-    mut refused: Refused<impl Write>,
-    made: fn(&Card) -> Vec<u8>,
-) -> io::Result<()> {
+/// Plays the lines of the whole input, then writes the saved lines.
+fn save(input: impl Read, mut output: impl Write, told: impl Write) -> io::Result<()> {
+    let mut refused = Refused::new(told);
     let card = serve(Program::Rampcard, input, &mut refused)?;
     refused.finish()?;
-    output.write_all(&made(&card))?;
+    output.write_all(&saved::lines(&card))?;
+    output.flush()
+}
+
+/// Plays a saved bench, the whole input, then writes the verdict on it; of an
+/// input of another length it is told that nothing is checked.
+fn verdict(mut input: impl Read, mut output: impl Write, mut told: impl Write) -> io::Result<()> {
+    let length = saved::length();
+    // One byte past a saved bench is kept: so long an input is none, whatever
+    // follows.
+    let mut bench = Vec::with_capacity(length + 1);
+    let mut front = input.by_ref().take(length as u64 + 1);
+    front.read_to_end(&mut bench)?;
+    io::copy(&mut input, &mut io::sink())?;
+    if bench.len() != length {
+        writeln!(told, "check: no saved bench came in; nothing is checked")?;
+        return told.flush();
+    }
+    let card = serve(Program::Rampcard, &bench[..], io::sink())?;
+    output.write_all(&profile::verdict(&card))?;
     output.flush()
 }
 
@@ -197,11 +210,6 @@ mod tests {
         assert_eq!(out, b"FF\n");
     }
 
-    fn save(input: impl Read, output: impl Write, told: impl Write) -> io::Result<()> {
-        let refused = Refused::new(refused::SAVE, told);
-        play(input, output, refused, saved::lines)
-    }
-
     /// What is saved of an input and what is told of it.
     fn saved_of(input: &[u8]) -> (String, String) {
         let (mut out, mut told) = (Vec::new(), Vec::new());
@@ -213,8 +221,7 @@ mod tests {
     /// The verdict on an input and what is told of it.
     fn verdict_on(input: &[u8]) -> (String, String) {
         let (mut out, mut told) = (Vec::new(), Vec::new());
-        let refused = Refused::new(refused::CHECK, &mut told);
-        play(input, &mut out, refused, profile::verdict).unwrap();
+        verdict(input, &mut out, &mut told).unwrap();
         let [out, told] = [out, told].map(|bytes| String::from_utf8(bytes).unwrap());
         (out, told)
     }
@@ -243,7 +250,7 @@ mod tests {
         assert_eq!(lines[2], "save: line 3 is answered 81060002");
         assert_eq!(lines[3], "save: line 4 is answered 81060000");
         assert_eq!(lines[4], "save: line 5 is answered 820400010000");
-        let all = "save: 5 of 6 lines refused; the rest was played and is saved; \
+        let all = "save: 5 of 6 lines refused; the rest was played and counts; \
             the guide has the numbers";
         assert_eq!(lines[5..], [all]);
         // The words before the refused one are done.
@@ -255,24 +262,56 @@ mod tests {
     fn one_refused_line() {
         let (_, told) = saved_of(b"030001\n18\n030001\n");
         let all = "save: line 2 is answered FF\nsave: 1 of 3 lines refused; \
-            the rest was played and is saved; the guide has the numbers\n";
+            the rest was played and counts; the guide has the numbers\n";
         assert_eq!(told, all);
     }
 
+    const PASSES: &str = "the bench passes: every sum of every ramp is in range\n";
+
     #[test]
-    fn an_input_is_played_and_checked() {
-        let passes = "the bench passes: every sum of every ramp is in range\n".to_string();
-        assert_eq!(verdict_on(b""), (passes.clone(), String::new()));
+    fn a_saved_bench_is_checked() {
+        let (reset, _) = saved_of(b"");
+        let checked = |line: &str| (line.to_string(), String::new());
+        assert_eq!(verdict_on(reset.as_bytes()), checked(PASSES));
         // Level 3 of channel 0 plays table 5: 16383, 16384, then the end.
-        let table = b"01080300050000\n0102803FFF000140000001\n";
-        assert_eq!(verdict_on(table), (passes, String::new()));
-        let (out, told) = verdict_on(&[&table[..], b"010843001F\n01087F0200\n16"].concat());
+        let table = "01080300050000\n0102803FFF000140000001\n";
+        let (bench, _) = saved_of(table.as_bytes());
+        assert_ne!(bench, reset);
+        assert_eq!(verdict_on(bench.as_bytes()), checked(PASSES));
+        // Refused lines are told of once, where the bench is saved.
+        let scale = "010843001F\n01087F0200\n16";
+        let (bench, told) = saved_of(format!("{table}{scale}").as_bytes());
+        assert_eq!(told.lines().count(), 2);
         let breaks = "the bench breaks the profile: channel 0, level 3: \
             the sum at point 1 of table 5 is out of range\n";
-        assert_eq!(out, breaks);
-        let all = "check: line 5 is answered FF\ncheck: 1 of 5 lines refused; \
-            the rest was played and is checked; the guide has the numbers\n";
-        assert_eq!(told, all);
+        assert_eq!(verdict_on(bench.as_bytes()), checked(breaks));
+    }
+
+    #[test]
+    fn an_input_of_another_length_is_not_checked() {
+        let (bench, _) = saved_of(b"0138000001\n");
+        let none = "check: no saved bench came in; nothing is checked\n";
+        let none = (String::new(), none.to_string());
+        let twice = bench.repeat(2);
+        for length in [0, 1, 11, 38_078, 38_080, 2 * 38_079] {
+            assert_eq!(verdict_on(&twice.as_bytes()[..length]), none, "{length}");
+        }
+        assert_eq!(verdict_on(&b"\n".repeat(1_000_000)), none);
+        assert_eq!(verdict_on(&b"\n".repeat(38_079)).0, PASSES);
+    }
+
+    #[test]
+    fn a_saved_bench_is_read_whole_before_its_verdict() {
+        let (bench, _) = saved_of(b"");
+        let (mut out, mut told) = (Vec::new(), Vec::new());
+        for front in ["", &bench[..100], &bench, &bench.repeat(2)] {
+            let failed = Script(VecDeque::from([Err(ErrorKind::Other.into())]));
+            let input = front.as_bytes().chain(failed);
+            assert!(verdict(input, &mut out, &mut told).is_err());
+        }
+        assert_eq!((out, told), (Vec::new(), Vec::new()));
+        assert!(verdict(bench.as_bytes(), Full, io::sink()).is_err());
+        assert!(verdict(&b""[..], io::sink(), Full).is_err());
     }
 
     #[test]

@@ -1,28 +1,10 @@
-//! What the programs save and verdict tell of the lines that are not answered 0.
+//! What the program save tells of the lines that are not answered 0.
 
 use std::io::{self, Write};
-
-/// Who tells, and what becomes of what was played.
-#[derive(Clone, Copy, Debug)]
-pub struct Teller {
-    name: &'static str,
-    done: &'static str,
-}
-
-pub const SAVE: Teller = Teller {
-    name: "save",
-    done: "saved",
-};
-
-pub const CHECK: Teller = Teller {
-    name: "check",
-    done: "checked",
-};
 
 /// Takes the line program's answers, one for each line of the input, and tells
 /// those that refuse their line.
 pub struct Refused<W> {
-    teller: Teller,
     told: W,
     /// The answer begun.
     answer: Vec<u8>,
@@ -32,9 +14,8 @@ pub struct Refused<W> {
 
 impl<W: Write> Refused<W> {
     /// No answer yet.
-    pub fn new(teller: Teller, told: W) -> Self {
+    pub fn new(told: W) -> Self {
         Refused {
-            teller,
             told,
             answer: Vec::new(),
             lines: 0,
@@ -47,8 +28,7 @@ impl<W: Write> Refused<W> {
         self.lines += 1;
         if refuses(&self.answer) {
             self.refused += 1;
-            let (name, line) = (self.teller.name, self.lines);
-            write!(self.told, "{name}: line {line} is answered ")?;
+            write!(self.told, "save: line {} is answered ", self.lines)?;
             self.told.write_all(&self.answer)?;
             self.told.write_all(b"\n")?;
         }
@@ -59,12 +39,11 @@ impl<W: Write> Refused<W> {
     /// The input has ended: how many lines were refused, if any.
     pub fn finish(&mut self) -> io::Result<()> {
         let (refused, lines) = (self.refused, self.lines);
-        let Teller { name, done } = self.teller;
         if refused > 0 {
             writeln!(
                 self.told,
-                "{name}: {refused} of {lines} lines refused; \
-                the rest was played and is {done}; the guide has the numbers"
+                "save: {refused} of {lines} lines refused; \
+                the rest was played and counts; the guide has the numbers"
             )?;
         }
         self.told.flush()
@@ -113,9 +92,9 @@ mod tests {
     }
 
     /// What is told of these answers, which come in two pieces.
-    fn told(teller: Teller, answers: &str, cut: usize) -> String {
+    fn told(answers: &str, cut: usize) -> String {
         let mut out = Vec::new();
-        let mut refused = Refused::new(teller, &mut out);
+        let mut refused = Refused::new(&mut out);
         refused.write_all(&answers.as_bytes()[..cut]).unwrap();
         refused.write_all(&answers.as_bytes()[cut..]).unwrap();
         refused.finish().unwrap();
@@ -127,20 +106,16 @@ mod tests {
         let answers = "81000001\nFF\n830000000000000000\n820400010002\n81000001\n";
         let lines = "save: line 2 is answered FF\n\
             save: line 4 is answered 820400010002\n\
-            save: 2 of 5 lines refused; the rest was played and is saved; \
+            save: 2 of 5 lines refused; the rest was played and counts; \
             the guide has the numbers\n";
         for cut in 0..answers.len() {
-            assert_eq!(told(SAVE, answers, cut), lines, "{cut}");
+            assert_eq!(told(answers, cut), lines, "{cut}");
         }
-        let lines = lines.replace("save:", "check:").replace("saved", "checked");
-        assert_eq!(told(CHECK, answers, 0), lines);
     }
 
     #[test]
     fn nothing_is_told_where_nothing_is_refused() {
-        for teller in [SAVE, CHECK] {
-            assert_eq!(told(teller, "", 0), "");
-            assert_eq!(told(teller, "81000001\n830000000000000000\n", 3), "");
-        }
+        assert_eq!(told("", 0), "");
+        assert_eq!(told("81000001\n830000000000000000\n", 3), "");
     }
 }
