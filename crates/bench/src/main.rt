@@ -7,6 +7,7 @@ use line::Answered;
 use panel::Plot;
 use panel::Plotted;
 use panel::Reading;
+use profile::Verdict;
 use transfer::Answer;
 ghost use Prim.Native.Nat.{_+_, _≤_, _<_};
 ghost use lib.ListN.{length};
@@ -232,6 +233,7 @@ fn answer(
         0x11 => write_slice(settings, tables, card, line, out),
         0x12 => read_slice(settings, card, line, out),
         0x15 => save(settings, card, line, out),
+        0x16 => check(settings, card, line, out),
         0x18 => reset(settings, tables, waves, card, line, out),
         0x1B => plot(settings, card, line, out),
         0x1C => show(card, line, out),
@@ -412,6 +414,27 @@ fn reduced(sum: usize) -> usize
     ensures { λ r. ⌜ r < 65521 ⌝ }
 {
     if sum < 65521 { sum } else { sum - 65521 }
+}
+
+// 16: whether the bench keeps the profile: 9600, or 9601, channel (2), level (2).
+fn check(settings: &[u16; 16960], card: Card, line: &[u8], out: &mut [u8]) -> Answered
+    ensures { λ r. ⌜ r .end ≤ 16393 ⌝ }
+{
+    if line.len() != 2 {
+        return bad(card, out);
+    }
+    match profile::check(settings) {
+        Verdict::Passes => {
+            digits::put4(out, 0, 0x9600);
+            Answered { card: card, end: 4 }
+        }
+        Verdict::Breaks(b) => {
+            digits::put4(out, 0, 0x9601);
+            digits::put2(out, 4, b.channel as usize);
+            digits::put2(out, 6, b.level as usize);
+            Answered { card: card, end: 8 }
+        }
+    }
 }
 
 // 18: a reset.
