@@ -627,8 +627,8 @@ module _ (c : ℕ) (st : State) (x : Act) (ys : List Act) (p : PassedLoad c st x
       go : (r : Holder) → triggerBy y (Tick w event) ≡ r → Counted c w (channelOf (y .card) c) (channelOf (act y (Tick w event) .card) c)
       go (Level level) e =
           let far : lead < countdown (act y (Tick w event) .settings) c level =
-              rw (struck-settings y (Tick w event) level e, before-settings y (Tick w event))
-              (not-load (y .settings) c level (sym (trigger-loads (y .settings) c level) ∙ (rw e at (two .1)))) in
+          rw (struck-settings y (Tick w event) level e, before-settings y (Tick w event))
+          (not-load (y .settings) c level (sym (trigger-loads (y .settings) c level) ∙ (rw e at (two .1)))) in
           rw (older-goes-on .signal y (Tick w event) level e c (p .inside) far, older-goes-on .shown y (Tick w event) level e c (p .inside) far) moved
       go Nobody e = rw (quiet-tick w y event e) moved
 

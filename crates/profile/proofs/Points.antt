@@ -248,8 +248,8 @@ module _ (s : List ℕ) (c level : ℕ) where
   found-told _ (at m a b p d) =
       let k : overflows (sums s start ld (stepsBefore s start m)) ≡ true = ap overflows (own-sum s start ld m b) ∙ p in
       let f : firstOut (λ n. sums s start ld (stepsBefore s start n)) (endPoint s start) 0 ≡ m =
-          first-out (λ n. sums s start ld (stepsBefore s start n)) (endPoint s start) 0 m (omega arith) (omega arith) k
-          (λ i j g. ap overflows (own-sum s start ld i (omega arith)) ∙ d i j g) in
+      first-out (λ n. sums s start ld (stepsBefore s start n)) (endPoint s start) 0 m (omega arith) (omega arith) k
+      (λ i j g. ap overflows (own-sum s start ld i (omega arith)) ∙ d i j g) in
       rw (keeps-not (stepsBefore s start m) (steps-most s start m b) k, f)
   found-told _ (nowhere d) =
       rw (each-in (sums s start ld) (total s start + 1) (λ k h. points-in s start ld (λ n g. d n (omega arith) g) k (omega arith)))

@@ -91,7 +91,8 @@ fn first_out(settings: &[u16], c: u16, loaded: Loaded) -> Out
             Sum::Word(_) => {}
             Sum::Overflow => return Out::At(point),
         }
-        if word::ends(point as usize, Samples(word::get(settings, at + 1))) {
+        let ended = word::ends(point as usize, Samples(word::get(settings, at + 1)));
+        if ended {
             return Out::Nowhere;
         }
     }
