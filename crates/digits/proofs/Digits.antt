@@ -97,23 +97,27 @@ unfolding hexAll
 length-hexAll [] = refl
 length-hexAll (w ∷ a) = length-append (hex4 w) (hexAll a) ∙ omega (arith, length-hex4 w, length-hexAll a)
 
-pub hexAll-append : (a b : List ℕ) → hexAll (a ++ b) ≡ hexAll a ++ hexAll b
+hexAll-append : (a b : List ℕ) → hexAll (a ++ b) ≡ hexAll a ++ hexAll b
 unfolding hexAll
 hexAll-append [] b = refl
 hexAll-append (w ∷ a) b = ap (λ (l : List ℕ). hex4 w ++ l) (hexAll-append a b) ∙ sym (append-assoc (hex4 w) (hexAll a) (hexAll b))
 
-pub hexAll-one : (w : ℕ) → hexAll (w ∷ []) ≡ hex4 w
+hexAll-one : (w : ℕ) → hexAll (w ∷ []) ≡ hex4 w
 unfolding hexAll
 hexAll-one w = append-nil (hex4 w)
+
+-- one word more, behind the n that are written
+pub hexAll-next : (o : List ℕ) (at : ℕ) (ws : List ℕ) (n w : ℕ) → length ws ≡ n → sets (sets o at (hexAll ws)) (at + 4 * n) (hex4 w) ≡ sets o at (hexAll (ws ++ w ∷ []))
+hexAll-next o at ws n w e =
+    ap (λ (k : ℕ). sets (sets o at (hexAll ws)) k (hex4 w)) (omega (arith, length-hexAll ws))
+    ∙ sym (sets-append o at (hexAll ws) (hex4 w))
+    ∙ ap (λ (l : List ℕ). sets o at (hexAll ws ++ l)) (sym (hexAll-one w))
+    ∙ ap (λ (l : List ℕ). sets o at l) (sym (hexAll-append ws (w ∷ [])))
 
 -- a turn of the loop that writes words
 pub hexAll-more : (o : List ℕ) (at : ℕ) (ws : List ℕ) (i : ℕ) → i < length ws
     → sets (sets o at (hexAll (take i ws))) (at + 4 * i) (hex4 (getD ws i 0)) ≡ sets o at (hexAll (take (i + 1) ws))
 hexAll-more o at ws i h =
-    let n : length (take i ws) ≡ i = length-take-le i ws (omega arith) in
-    ap (λ (k : ℕ). sets (sets o at (hexAll (take i ws))) k (hex4 (getD ws i 0))) (omega (arith, n, length-hexAll (take i ws)))
-    ∙ sym (sets-append o at (hexAll (take i ws)) (hex4 (getD ws i 0)))
-    ∙ ap (λ (l : List ℕ). sets o at (hexAll (take i ws) ++ l)) (sym (hexAll-one (getD ws i 0)))
-    ∙ ap (λ (l : List ℕ). sets o at l) (sym (hexAll-append (take i ws) (getD ws i 0 ∷ [])))
+    hexAll-next o at (take i ws) i (getD ws i 0) (length-take-le i ws (omega arith))
     ∙ ap (λ (l : List ℕ). sets o at (hexAll l)) (sym (take-suc ws i 0 h))
     ∙ ap (λ (k : ℕ). sets o at (hexAll (take k ws))) (sym (add-one i))

@@ -18,7 +18,7 @@ use Rattle.line.proofs.Frames.{frame-named}
 use Rattle.saved.specs.declared.Span.{Span}
 use Rattle.saved.specs.Saved.{wordsAt, frames, frameText, textOf, savedText}
 use Rattle.saved.proofs.Text.{length-wordsAt}
-use Rattle.saved.proofs.Size.{size}
+use Rattle.saved.proofs.Frames.{frames-are}
 use Rattle.restored.specs.Restored.{LinesAre}
 
 -- ---- the lines of the text
@@ -54,7 +54,7 @@ many-lines s (x ∷ l) = ap suc (many-lines s l)
 
 -- ONE LINE FOR EACH FRAME, 173 in all
 pub lines-are : LinesAre
-lines-are = record { each = one-each; many = λ s. ap length (one-each s) ∙ many-lines s frames ∙ size .lines }
+lines-are = record { each = one-each; many = λ s. ap length (one-each s) ∙ many-lines s frames ∙ frames-are .lines }
 
 -- ---- a line, read back
 

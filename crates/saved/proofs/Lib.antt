@@ -1,4 +1,4 @@
 pub mod Text
-pub mod Size
+pub mod Frames
 pub mod Spans
 pub mod Covered

@@ -11,7 +11,7 @@ use lib.ListN.{length, getD, set, take, drop, length-append, take-append-drop}
 use lib.Seq.{sets, take-suc}
 use Rattle.word.proofs.Place.{at-place}
 use Rattle.digits.specs.Digits.{digitOf, hex2, hex4, hexAll}
-use Rattle.digits.proofs.Digits.{sets-append, then-at, length-hex2, length-hex4, length-hexAll, hexAll-append, hexAll-one}
+use Rattle.digits.proofs.Digits.{sets-append, then-at, length-hex2, length-hex4, length-hexAll, hexAll-next}
 use Rattle.saved.specs.declared.Span.{Span}
 use Rattle.saved.specs.Saved.{span, piece, pieces, cut, framesOf, wordsAt, frameText, lineText, textOf, Laid}
 use Rattle.saved.specs.Laws.{bytesIn}
@@ -32,10 +32,7 @@ words-suc s a (suc n) = ap (λ (l : List ℕ). getD s a 0 ∷ l) (words-suc s (s
 pub words-more : (o : List ℕ) (at : ℕ) (s : List ℕ) (a i : ℕ)
     → sets (sets o at (hexAll (wordsAt s a i))) (at + 4 * i) (hex4 (getD s (a + i) 0)) ≡ sets o at (hexAll (wordsAt s a (i + 1)))
 words-more o at s a i =
-    ap (λ (k : ℕ). sets (sets o at (hexAll (wordsAt s a i))) k (hex4 (getD s (a + i) 0))) (omega (arith, length-hexAll (wordsAt s a i), length-wordsAt s a i))
-    ∙ sym (sets-append o at (hexAll (wordsAt s a i)) (hex4 (getD s (a + i) 0)))
-    ∙ ap (λ (l : List ℕ). sets o at (hexAll (wordsAt s a i) ++ l)) (sym (hexAll-one (getD s (a + i) 0)))
-    ∙ ap (sets o at) (sym (hexAll-append (wordsAt s a i) (getD s (a + i) 0 ∷ [])))
+    hexAll-next o at (wordsAt s a i) i (getD s (a + i) 0) (length-wordsAt s a i)
     ∙ ap (λ (l : List ℕ). sets o at (hexAll l)) (sym (words-suc s a i))
     ∙ ap (λ (k : ℕ). sets o at (hexAll (wordsAt s a k))) (sym (add-one i))
 

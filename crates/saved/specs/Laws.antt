@@ -1,4 +1,4 @@
--- What the saved lines hold, and how long they are.
+-- What the saved lines hold, in which order, and how long they are.
 use mathlib.Core.Path.{_≡_}
 use mathlib.Core.Bool.{Bool, true, false, not, _&&_, _||_}
 use mathlib.Core.List.{List, [], _∷_, _++_, map}
@@ -54,7 +54,7 @@ ofCard = span 0x4000 256 ∷ span 0x4200 1 ∷ []
 abbrev pub from : ℕ → List Span
 from c = map (λ x. span (base c + x .first) (x .count)) ofChannel
 
--- ---- how long they are
+-- ---- the frames: which, in what order, how many, and how long
 
 -- 'in address order': each frame begins past the words of the one before
 abbrev pub ascending : ℕ → List Span → Bool
@@ -66,7 +66,7 @@ abbrev pub bytesIn : List Span → ℕ
 bytesIn [] = 0
 bytesIn (x ∷ xs) = 7 + 4 * x .count + bytesIn xs
 
-pub record Size : Type 0 where
+pub record FramesAre : Type 0 where
   pub list : spans ≡ from 0 ++ (from 1 ++ (from 2 ++ (from 3 ++ ofCard)))
   pub order : ascending 0 frames ≡ true
   pub lines : length frames ≡ 173

@@ -12,7 +12,7 @@ use Rattle.saved.specs.declared.Saved.the-variants.{Lines}
 use Rattle.saved.specs.Saved.{span, spans, pieces, cut, framesOf, frames, textOf, savedText, Laid, Kept}
 use Rattle.saved.specs.Laws.{bytesIn}
 use Rattle.saved.proofs.Text.{length-text, span-room, span-more}
-use Rattle.saved.proofs.Size.{size, too-short, has-room}
+use Rattle.saved.proofs.Frames.{frames-are, too-short, has-room}
 use Rattle.saved.proofs.Spans.{many}
 use Rattle.saved.proofs.save.Statement.{statement}
 use Rattle.saved.proofs.save.Tie as tie
@@ -48,7 +48,7 @@ put-span-requires c κs =
     let r = span-room spans (t .k) (span 0 0) (rw many (i .loop-test .taken)) in
     let e = length-text s (framesOf (take (t .k) spans)) in
     let q = ap (λ (y : Span). bytesIn (cut y 0 (pieces y))) (x .0) in
-    (search needs, omega (arith, q, r, e, size .bytes, t .inv .1 .1, t .inv .3, o), omega (arith, t .inv .2, i .loop-test .taken), x .1 .1)
+    (search needs, omega (arith, q, r, e, frames-are .bytes, t .inv .1 .1, t .inv .3, o), omega (arith, t .inv .2, i .loop-test .taken), x .1 .1)
 
 add-k : tie.Need-add-k Inv-loop μ-loop
 add-k c = search needs

@@ -1,4 +1,5 @@
--- 173 lines, 38,079 bytes, whatever the settings are: so 10 depends on the buffer's length alone. Assumes nothing.
+-- The frames are the list written out, in address order, 173 lines and 38,079 bytes whatever the settings are (`frames-are`): so 10
+-- depends on the buffer's length alone. Assumes nothing.
 use mathlib.Core.Path.{_≡_, _∙_, refl}
 use mathlib.Core.Bool.{false}
 use mathlib.Core.List.{List}
@@ -10,15 +11,15 @@ use lib.Seq.{sets}
 use Rattle.map.specs.Map.{channelRows, cardRows, block, regions}
 use Rattle.saved.specs.declared.Saved.the-variants.{Lines, TooShort}
 use Rattle.saved.specs.Saved.{holding, fixedFrom, spans, cut, framesOf, frames, savedText, kept, saveOf}
-use Rattle.saved.specs.Laws.{Size}
+use Rattle.saved.specs.Laws.{FramesAre}
 use Rattle.saved.proofs.Text.{length-text}
 
-pub size : Size
+pub frames-are : FramesAre
 unfolding savedText frames framesOf cut spans holding fixedFrom regions block channelRows cardRows
-size = record { list = refl; order = refl; lines = refl; bytes = refl; always = λ s. length-text s frames }
+frames-are = record { list = refl; order = refl; lines = refl; bytes = refl; always = λ s. length-text s frames }
 
 all-bytes : (s : List ℕ) → length (savedText s) ≡ 38079
-all-bytes s = size .always s ∙ size .bytes
+all-bytes s = frames-are .always s ∙ frames-are .bytes
 
 -- a buffer that is too short, and one that is not
 module _ (s o : List ℕ) where
