@@ -34,6 +34,8 @@ const USAGE: &str = "no argument, or: bench, or: save, or: verdict, \
     or: benches SEED COUNT DIR";
 /// The input is read in pieces of this many bytes.
 const PIECE: usize = 64 * 1024;
+/// The program verdict reads this many bytes at most; no saved bench is so long.
+const MOST: u64 = 65_536;
 
 fn main() -> ExitCode {
     let arguments: Vec<String> = env::args_os()
@@ -113,21 +115,18 @@ fn save(input: impl Read, mut output: impl Write, told: impl Write) -> io::Resul
     output.flush()
 }
 
-/// Plays a saved bench, the whole input, then writes the verdict on it; of an
-/// input of another length it is told that nothing is checked.
-fn verdict(mut input: impl Read, mut output: impl Write, mut told: impl Write) -> io::Result<()> {
-    let length = saved::length();
-    // One byte past a saved bench is kept: so long an input is none, whatever
-    // follows.
-    let mut bench = Vec::with_capacity(length + 1);
-    let mut front = input.by_ref().take(length as u64 + 1);
-    front.read_to_end(&mut bench)?;
-    io::copy(&mut input, &mut io::sink())?;
-    if bench.len() != length {
+/// Plays the input on a reset card, then writes the verdict on that card. The
+/// input is a saved bench if the card saves it again to the byte; of any other
+/// it is told that nothing is checked.
+fn verdict(input: impl Read, mut output: impl Write, mut told: impl Write) -> io::Result<()> {
+    // The front of a longer input is no saved bench either.
+    let mut bench = Vec::new();
+    input.take(MOST).read_to_end(&mut bench)?;
+    let card = serve(Program::Rampcard, &bench[..], io::sink())?;
+    if bench != saved::lines(&card) {
         writeln!(told, "check: no saved bench came in; nothing is checked")?;
         return told.flush();
     }
-    let card = serve(Program::Rampcard, &bench[..], io::sink())?;
     output.write_all(&profile::verdict(&card))?;
     output.flush()
 }
@@ -250,7 +249,7 @@ mod tests {
         assert_eq!(lines[2], "save: line 3 is answered 81060002");
         assert_eq!(lines[3], "save: line 4 is answered 81060000");
         assert_eq!(lines[4], "save: line 5 is answered 820400010000");
-        let all = "save: 5 of 6 lines refused; the rest was played and counts; \
+        let all = "save: 5 of 6 lines refused; the others were done; \
             the guide has the numbers";
         assert_eq!(lines[5..], [all]);
         // The words before the refused one are done.
@@ -262,7 +261,7 @@ mod tests {
     fn one_refused_line() {
         let (_, told) = saved_of(b"030001\n18\n030001\n");
         let all = "save: line 2 is answered FF\nsave: 1 of 3 lines refused; \
-            the rest was played and counts; the guide has the numbers\n";
+            the others were done; the guide has the numbers\n";
         assert_eq!(told, all);
     }
 
@@ -282,34 +281,107 @@ mod tests {
         let scale = "010843001F\n01087F0200\n16";
         let (bench, told) = saved_of(format!("{table}{scale}").as_bytes());
         assert_eq!(told.lines().count(), 2);
-        let breaks = "the bench breaks the profile: channel 0, level 3: \
+        let breaks = "the bench breaks the profile, first at channel 0, level 3: \
             the sum at point 1 of table 5 is out of range\n";
         assert_eq!(verdict_on(bench.as_bytes()), checked(breaks));
+    }
+
+    /// No verdict on the input, and the one line that says so.
+    fn not_checked(input: &[u8]) -> bool {
+        let none = "check: no saved bench came in; nothing is checked\n";
+        verdict_on(input) == (String::new(), none.to_string())
     }
 
     #[test]
     fn an_input_of_another_length_is_not_checked() {
         let (bench, _) = saved_of(b"0138000001\n");
-        let none = "check: no saved bench came in; nothing is checked\n";
-        let none = (String::new(), none.to_string());
         let twice = bench.repeat(2);
-        for length in [0, 1, 11, 38_078, 38_080, 2 * 38_079] {
-            assert_eq!(verdict_on(&twice.as_bytes()[..length]), none, "{length}");
+        for length in [0, 1, 11, 38_078, 38_080, 65_536, 65_537, 2 * 38_079] {
+            assert!(not_checked(&twice.as_bytes()[..length]), "{length}");
         }
-        assert_eq!(verdict_on(&b"\n".repeat(1_000_000)), none);
-        assert_eq!(verdict_on(&b"\n".repeat(38_079)).0, PASSES);
+        assert!(not_checked(&b"\n".repeat(1_000_000)));
+        // A line behind it, or one before it, that changes nothing.
+        assert!(not_checked(format!("{bench}\n").as_bytes()));
+        assert!(not_checked(format!("{bench}0138000001\n").as_bytes()));
+        assert!(not_checked(format!("03000A\n{bench}").as_bytes()));
+        // Two lines in one, or CR LF line ends.
+        assert!(not_checked(bench.replacen('\n', "", 1).as_bytes()));
+        assert!(not_checked(bench.replace('\n', "\r\n").as_bytes()));
+    }
+
+    #[test]
+    fn a_damaged_bench_of_the_right_length_is_not_checked() {
+        let (bench, _) = saved_of(b"0142000001\n0138000001\n0140000001\n");
+        assert_eq!(verdict_on(bench.as_bytes()).0, PASSES);
+        for at in (0..bench.len()).step_by(101).chain([38_077, 38_078]) {
+            let mut damaged = bench.clone().into_bytes();
+            damaged[at] = b'G';
+            assert!(not_checked(&damaged), "{at}");
+        }
+        for byte in [b"\n", b"0", b"\0", b"\xFF"] {
+            assert!(not_checked(&byte.repeat(38_079)), "{byte:?}");
+        }
+        // A word in lower case, another address, and words that the card
+        // refuses: a table that is none, on level 1 an event of level 0.
+        let slots = format!("\n0140000001{}", "00FE".repeat(7));
+        for (line, other) in [
+            (format!("{slots}00FE"), format!("{slots}00fe")),
+            ("\n0142000001".into(), "\n0142020001".into()),
+            ("\n0108000000".into(), "\n0108000010".into()),
+            (format!("{slots}00FE"), format!("{slots}0001")),
+        ] {
+            assert_eq!(bench.matches(&line).count(), 1, "{line}");
+            let damaged = bench.replace(&line, &other);
+            assert_eq!(damaged.len(), 38_079, "{other}");
+            assert!(not_checked(damaged.as_bytes()), "{other}");
+        }
+    }
+
+    /// In another order the lines leave the same card, but one order is saved.
+    #[test]
+    fn swapped_lines_are_not_checked() {
+        let (bench, _) = saved_of(b"0100801234\n0142000001\n");
+        let lines: Vec<&str> = bench.split_inclusive('\n').collect();
+        for [one, other] in [[0, 1], [0, 172], [40, 41], [168, 171]] {
+            let mut swapped = lines.clone();
+            swapped.swap(one, other);
+            let swapped = swapped.concat();
+            assert_eq!(saved_of(swapped.as_bytes()).0, bench);
+            assert!(not_checked(swapped.as_bytes()), "{one} {other}");
+        }
+        // A line twice in place of the next one.
+        let mut doubled = lines.clone();
+        doubled[1] = lines[0];
+        let doubled = doubled.concat();
+        assert_eq!(saved_of(doubled.as_bytes()).0, bench);
+        assert!(not_checked(doubled.as_bytes()));
+    }
+
+    /// A digit in place of another one may be another bench's.
+    #[test]
+    fn a_bench_changed_to_another_one_is_checked() {
+        let (bench, _) = saved_of(b"0142000001\n");
+        let (reset, _) = saved_of(b"");
+        let changed = bench.replace("\n0142000001", "\n0142000000");
+        assert_eq!(changed, reset);
+        assert_eq!(verdict_on(changed.as_bytes()).0, PASSES);
     }
 
     #[test]
     fn a_saved_bench_is_read_whole_before_its_verdict() {
         let (bench, _) = saved_of(b"");
+        let fails = || Script(VecDeque::from([Err(ErrorKind::Other.into())]));
         let (mut out, mut told) = (Vec::new(), Vec::new());
-        for front in ["", &bench[..100], &bench, &bench.repeat(2)] {
-            let failed = Script(VecDeque::from([Err(ErrorKind::Other.into())]));
-            let input = front.as_bytes().chain(failed);
+        let twice = bench.repeat(2);
+        for front in ["", &bench[..100], &bench, &twice[..65_535]] {
+            let input = front.as_bytes().chain(fails());
             assert!(verdict(input, &mut out, &mut told).is_err());
         }
         assert_eq!((out, told), (Vec::new(), Vec::new()));
+        // What follows 65,536 bytes is not read.
+        let input = twice.as_bytes()[..65_536].chain(fails());
+        assert!(verdict(input, io::sink(), io::sink()).is_ok());
+        assert!(verdict(io::repeat(b'0'), io::sink(), io::sink()).is_ok());
         assert!(verdict(bench.as_bytes(), Full, io::sink()).is_err());
         assert!(verdict(&b""[..], io::sink(), Full).is_err());
     }

@@ -60,7 +60,7 @@ pub fn verdict(card: &Card) -> Vec<u8> {
             table,
             point,
         }) => format!(
-            "the bench breaks the profile: channel {channel}, level {level}: \
+            "the bench breaks the profile, first at channel {channel}, level {level}: \
             the sum at point {point} of table {table} is out of range\n"
         ),
     };

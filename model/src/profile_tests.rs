@@ -154,7 +154,7 @@ fn verdicts_in_words() {
     let mut table = [0, 1].repeat(20);
     table.extend([0x7FFF, 0]);
     put_ramp(&mut card, 3, 0x0400, 0, &table);
-    let breaks = "the bench breaks the profile: channel 3, level 4: \
+    let breaks = "the bench breaks the profile, first at channel 3, level 4: \
         the sum at point 20 of table 7 is out of range\n";
     assert_eq!(verdict(&card), breaks.as_bytes());
 }

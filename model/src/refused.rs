@@ -43,7 +43,7 @@ impl<W: Write> Refused<W> {
             writeln!(
                 self.told,
                 "save: {refused} of {lines} lines refused; \
-                the rest was played and counts; the guide has the numbers"
+                the others were done; the guide has the numbers"
             )?;
         }
         self.told.flush()
@@ -106,7 +106,7 @@ mod tests {
         let answers = "81000001\nFF\n830000000000000000\n820400010002\n81000001\n";
         let lines = "save: line 2 is answered FF\n\
             save: line 4 is answered 820400010002\n\
-            save: 2 of 5 lines refused; the rest was played and counts; \
+            save: 2 of 5 lines refused; the others were done; \
             the guide has the numbers\n";
         for cut in 0..answers.len() {
             assert_eq!(told(answers, cut), lines, "{cut}");
