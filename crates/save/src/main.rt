@@ -176,7 +176,7 @@ fn sum_up(tally: Tally) {
     io::print_decimal(STDERR_FILENO, tally.refused);
     complain(b" of ");
     io::print_decimal(STDERR_FILENO, tally.lines);
-    complain(b" lines refused; the rest was played and counts; the guide has the numbers\n");
+    complain(b" lines refused; the others were done; the guide has the numbers\n");
 }
 
 // One more.

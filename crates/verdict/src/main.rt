@@ -1,15 +1,11 @@
 // The program verdict: plays a saved bench from standard input on a reset card, and says in words on standard output whether it keeps the
-// profile.
+// profile. Saved again the card gives the same bench; where it does not, no saved bench came in.
+use card::Card;
 use libc::STDERR_FILENO;
 use libc::STDIN_FILENO;
 use libc::STDOUT_FILENO;
 use profile::Break;
 use profile::Verdict;
-ghost use Prim.Native.Nat.{_≤_};
-ghost use lib.ListN.{length};
-
-// How many bytes a saved bench has, whatever its settings are.
-const LENGTH: usize = 38079;
 
 // The lent words and buffers, and the bench.
 fn main() {
@@ -18,26 +14,45 @@ fn main() {
     let mut waves = [0u16; 4096];
     let mut line = [0u8; 263];
     let mut bench = io::large_buffer();
-    let mut answers = io::large_buffer();
+    let mut out = io::large_buffer();
     let n = io::read_full(STDIN_FILENO, &mut bench);
-    if n != LENGTH {
-        complain(b"check: no saved bench came in; nothing is checked\n");
-        return;
-    }
     let k = line::start(&mut settings, &mut tables, &mut waves);
-    line::feed(
+    judge(
         &mut settings,
         &mut tables,
         &waves,
         &mut line,
-        &mut answers,
+        &mut out,
         k,
-        0,
         &bench[..n],
     );
-    if !say(profile::check(&settings)) {
+}
+
+// Plays the bench and says the verdict, if it is a saved one.
+fn judge(
+    settings: &mut [u16; 16960],
+    tables: &mut [u16; 512],
+    waves: &[u16; 4096],
+    line: &mut [u8; 263],
+    out: &mut [u8],
+    card: Card,
+    bench: &[u8],
+) {
+    line::feed(settings, tables, waves, line, out, card, 0, bench);
+    if !saves_as(settings, out, bench) {
+        complain(b"check: no saved bench came in; nothing is checked\n");
+        return;
+    }
+    if !say(profile::check(settings)) {
         complain(b"check: standard output cannot be written\n");
     }
+}
+
+// Whether the settings, saved, are these bytes.
+fn saves_as(settings: &[u16; 16960], out: &mut [u8], bench: &[u8]) -> bool {
+    let saved = saved::save(settings, out);
+    let n = word::least(saved::written(saved), out.len());
+    check::same(bench, &out[..n])
 }
 
 // The verdict in words, or that they cannot be written.
@@ -50,7 +65,7 @@ fn say(verdict: Verdict) -> bool {
 
 // The ramp that breaks the profile, and its first point that does.
 fn name(b: Break) -> bool {
-    if !tell(b"the bench breaks the profile: channel ") {
+    if !tell(b"the bench breaks the profile, first at channel ") {
         return false;
     }
     number(b.channel);
