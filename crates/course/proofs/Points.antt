@@ -56,20 +56,20 @@ module _ (w : List ℕ) (first : ℕ) where
   unfolding stepsBefore
   steps-next n = rw (add-one n)
 
-  steps-suc : (n : ℕ) → stepsBefore w first (suc n) ≡ stepsBefore w first n + stepAt w first n
+  pub steps-suc : (n : ℕ) → stepsBefore w first (suc n) ≡ stepsBefore w first n + stepAt w first n
   unfolding stepsBefore
   steps-suc n = refl
 
   module _ (e : ℕ) (end : EndPoint w first e) where
     -- the test finds the end point
-    at-end : (n : ℕ) → n ≤ e → ends w first n ≡ true → n ≡ e
+    pub at-end : (n : ℕ) → n ≤ e → ends w first n ≡ true → n ≡ e
     at-end n h q = go (ltb n e) refl
       where
         go : (x : Bool) → ltb n e ≡ x → n ≡ e
         go true y = absurd (differ (ends w first n) q (end .earlier n (omega (arith, ltb-true))))
         go false y = omega (arith, ltb-false)
 
-    not-end : (n : ℕ) → n ≤ e → ends w first n ≡ false → n < e
+    pub not-end : (n : ℕ) → n ≤ e → ends w first n ≡ false → n < e
     not-end n h q = go (ltb n e) refl
       where
         go : (x : Bool) → ltb n e ≡ x → n < e

@@ -20,7 +20,7 @@ use Rattle.channel.specs.Channel.{toneFor}
 use Rattle.course.specs.Follows.{totalFor, sumFor, sineFor, freeFor, counterFor, signalFor, CounterClosed}
 
 -- of two facts, the first
-and-first : (a b : Bool) → a && b ≡ true → a ≡ true
+pub and-first : (a b : Bool) → a && b ≡ true → a ≡ true
 and-first true b e = refl
 and-first false b e = e
 

@@ -26,7 +26,7 @@ use Rattle.card.specs.Tick.{advanced}
 use Rattle.card.proofs.All.{two-passes}
 use Rattle.course.specs.Points.{SameTable}
 use Rattle.course.specs.Course as C
-use Rattle.course.proofs.Acts.{tick-elsewhere, trigger-elsewhere, run-length, untimed-table}
+use Rattle.course.proofs.Acts.{tick-elsewhere, trigger-elsewhere, untimed-table}
 use Rattle.course.proofs.Tables.{same-next, same-sample}
 use Rattle.course.proofs.Walk.{placed-next}
 use Rattle.history.specs.History.{Act, Write, act, triggerBy}
@@ -35,7 +35,7 @@ use Rattle.history.specs.Triggers.{eventBy}
 use Rattle.history.specs.Countdowns.{justBefore, CountdownsSet, RampKept, stepped, GoesOn, OlderGoesOn}
 use Rattle.history.specs.Demand3.{sideAt}
 use Rattle.history.proofs.Channels.{ramp-sound, ramp-phase}
-use Rattle.history.proofs.Turns.{Turn}
+use Rattle.history.proofs.Turns.{Turn, mid-length}
 use Rattle.history.proofs.Parts.{write-part, part-keeps}
 use Rattle.history.proofs.Tracks.{TickTurn, tick-turn, tick-same, TriggerTurn, trigger-turn, trigger-same, trigger-is, struck-settings, before-room}
 
@@ -57,7 +57,7 @@ same-countdown : (st : State) (x : Act) (level c : ℕ) → triggerBy st x ≡ L
 same-countdown st x level c e = ap (λ (s : List ℕ). countdown s c level) (struck-settings st x level e)
 
 -- the channel that a trigger leaves
-struck-channel : (st : State) (x : Act) (level : ℕ) → triggerBy st x ≡ Level level → (c : ℕ) (h : c < 4)
+pub struck-channel : (st : State) (x : Act) (level : ℕ) → triggerBy st x ≡ Level level → (c : ℕ) (h : c < 4)
     → channelOf (act st x .card) c
     ≡ triggered (justBefore st x .settings) (trigger-turn (justBefore st x) level c h .mid) c (channelOf (justBefore st x .card) c) level .channel
 struck-channel st x level e c h =
@@ -81,13 +81,10 @@ module _ (f : ℕ → List ℕ → Channel → Side)
       → SameTable (onAll f k l .tables) (firstOf c) l (firstOf c)
   turn-table y e room i h =
       sym (ap (λ (x : Side). word (x .tables) (firstOf c + i)) (y .goes))
-      ∙ untimed-table c (f c (y .mid) (channelOf k c)) (y .after) (y .none-after) (omega (arith, ap length e, long)) i h
+      ∙ untimed-table c (f c (y .mid) (channelOf k c)) (y .after) (y .none-after) (omega (arith, ap length e, mid-length f beside k l c y)) i h
       ∙ ap (λ (t : List ℕ). word t (firstOf c + i)) e
       ∙ sym (ap (λ (x : Side). word (x .tables) (firstOf c + i)) (y .comes))
       ∙ untimed-table c (side (channelOf k c) l) (y .before) (y .none) room i h
-    where
-      long : length (y .mid) ≡ length l
-      long = sym (ap (λ (x : Side). length (x .tables)) (y .comes)) ∙ run-length c (side (channelOf k c) l) (y .before)
 
 -- ---- a trigger
 

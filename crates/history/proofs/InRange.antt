@@ -17,7 +17,7 @@ use Rattle.map.specs.Map.{base}
 use Rattle.map.specs.Addresses.{delayAt, enableAt}
 use Rattle.slots.specs.declared.Holder.{Holder}
 use Rattle.slots.specs.declared.Holder.the-variants.{Level, Nobody}
-use Rattle.word.specs.Word.{lasting}
+use Rattle.word.specs.Word.{grown, lasting}
 use Rattle.word.specs.declared.Micros.{Micros}
 use Rattle.channel.specs.declared.Place.{Place}
 use Rattle.channel.specs.declared.Way.{Way}
@@ -35,6 +35,7 @@ use Rattle.channel.specs.declared.Channel.{Channel}
 use Rattle.channel.specs.Ramp.{enter, next, sampleAt, way, isSine, ended, onward, given, sooner, unsampled, advance}
 use Rattle.channel.specs.Signal.{overflows, sineAfter, signalAfter, counterAt, counterNext, makeOf}
 use Rattle.channel.specs.Channel.{Side, Move, side, move, quiet, counting, word, with, withSignal, firstOf, lead, loadsAt, toStart, rampOf, phaseOf, load, start, countTo, moveAt, moveOf, movedOn, tickOf, loadedFor, countdown, triggered}
+use Rattle.card.specs.declared.Card.{Card}
 use Rattle.card.specs.declared.Cause.{Cause}
 use Rattle.card.specs.Card.{State, channelOf}
 use Rattle.card.specs.Trigger.{triggerOf}
@@ -47,6 +48,7 @@ use Rattle.course.proofs.Copies.{choose, tick-length, trigger-length}
 use Rattle.course.proofs.Acts.{run-length, untimed-table, untimed-ramp}
 use Rattle.course.proofs.Tables.{same-enter, same-next, same-sample}
 use Rattle.course.proofs.Walk.{placed, place-first, place-step, place-more, place-last}
+use Rattle.course.proofs.Signals.{and-first}
 use Rattle.course.proofs.Moves.{tick-load}
 use Rattle.course.proofs.Course.{Held, loads}
 use Rattle.profile.specs.Laws.{InRange}
@@ -58,17 +60,19 @@ use Rattle.history.specs.Countdowns.{justBefore}
 use Rattle.history.specs.Demand3.{sideAt}
 use Rattle.history.specs.Story.{Happening, Load, Sample, FreeSample, Output, Clear, Fresh, sample, byRamp, byStart, inPhase, byTick, byTrigger, byWord, byWords, inTick, atTrigger, happens, story}
 use Rattle.history.specs.Active.{loadAmong}
-use Rattle.history.specs.InRange.{outAmong, PassedLoad, NoSumCounted, NeverOut}
+use Rattle.history.specs.InRange.{outBeforeLoad, sampleAmong, PassedLoad, NoSumCounted, NeverOut}
 use Rattle.history.proofs.Addresses.{overflow-register}
 use Rattle.history.proofs.Channels.{ramp-phase}
 use Rattle.history.proofs.Sound.{one-sound}
+use Rattle.history.proofs.Turns.{Turn, mid-length}
 use Rattle.history.proofs.Parts.{write-part}
 use Rattle.history.proofs.Tracks.{TickTurn, tick-turn, tick-same, tick-goes, TriggerTurn, trigger-turn, trigger-goes, trigger-is, advanced-room, struck-settings, before-settings, before-room, quiet-tick}
-use Rattle.history.proofs.Story.{four-fresh}
-use Rattle.history.proofs.Countdowns.{older-goes-on}
+use Rattle.history.proofs.Story.{same-tick, four-fresh}
+use Rattle.history.proofs.Countdowns.{struck-channel}
 use Rattle.history.proofs.Loads.{load-append, words-load, tick-loads, trigger-loads, trigger-pending}
+use Rattle.history.proofs.Named.{counting-load}
 
--- ---- what a tick gives
+-- ---- what a tick gives, and what is told of it
 
 -- no sum out of range; a sample of a free run is a sine
 abbrev GaveIn : Tone → Gave → Type 0
@@ -76,81 +80,140 @@ GaveIn t NoSample = Unit
 GaveIn t (OfRamp f u) = overflows u ≡ false
 GaveIn t OfFreeRun = isSine (t .mode) ≡ true
 
-and-left : (a b : Bool) → a && b ≡ true → a ≡ true
-and-left true b e = refl
-and-left false b e = e
+data Tells : Gave → List Happening → Type 0 where
+  nothing : Tells NoSample []
+  loaded : (ld : Loaded) → Tells NoSample (Load ld ∷ [])
+  sampled : (w : List ℕ) (f : Bool) (p : Place) (u : Sum) → Tells (OfRamp f u) (Sample w f p u ∷ [])
+  freed : (w : List ℕ) → Tells OfFreeRun (FreeSample w ∷ [])
 
--- so nothing out of range happens
-module _ (w z l : List ℕ) (c : ℕ) (ch : Channel) (t : Tone) where
-  ramp-told : (r : Ramp) → GaveIn t (advance l (firstOf c) (ch .loaded) r (ch .shown) .gave) → outAmong (byRamp w l c ch r) ≡ false
+module _ (w z l : List ℕ) (c : ℕ) (ch : Channel) where
+  ramp-tells : (r : Ramp) → Tells (advance l (firstOf c) (ch .loaded) r (ch .shown) .gave) (byRamp w l c ch r)
   unfolding advance given
-  ramp-told Still g = refl
-  ramp-told (Going r) g = go (ltb 1 (r .wait .0)) g
+  ramp-tells Still = nothing
+  ramp-tells (Going r) = go (ltb 1 (r .wait .0))
     where
       p : Place
       p = next l (firstOf c) (r .place)
 
-      go : (b : Bool) → GaveIn t (cond b (unsampled (Going (sooner r)) (ch .shown)) (given false l (firstOf c) (ch .loaded) (r .period .0) p (ch .shown)) .gave)
-          → outAmong (cond b [] (sample w false l c ch p)) ≡ false
-      go true g = refl
-      go false g = rw g
-  ramp-told (Free r) g = choose (λ hs. outAmong hs ≡ false) (ltb 1 (r .wait .0)) _ _ refl refl
+      go : (b : Bool) → Tells (cond b (unsampled (Going (sooner r)) (ch .shown)) (given false l (firstOf c) (ch .loaded) (r .period .0) p (ch .shown)) .gave)
+          (cond b [] (sample w false l c ch p))
+      go true = nothing
+      go false = sampled w false p _
+  ramp-tells (Free r) = go (ltb 1 (r .wait .0))
+    where
+      go : (b : Bool) → Tells (cond b (unsampled (Free (sooner r)) (ch .shown)) (record { ramp = Free (way (r .place) (r .period .0) (r .period .0)); shown = ch .shown; gave = OfFreeRun }) .gave)
+          (cond b [] (FreeSample w ∷ []))
+      go true = nothing
+      go false = freed w
 
-  start-told : GaveIn t (start z l c ch .gave) → outAmong (byStart w z l c ch) ≡ false
+  start-tells : Tells (start z l c ch .gave) (byStart w z l c ch)
   unfolding start given
-  start-told g = go (eqb (word z (enableAt c)) 1) g
+  start-tells = go (eqb (word z (enableAt c)) 1)
     where
       p : Place
       p = enter l (firstOf c) 0
 
-      go : (b : Bool) → GaveIn t (cond b (movedOn ch l (given true l (firstOf c) (ch .loaded) (lasting 1) p (ch .shown))) (quiet (side (with ch Rest (ch .shown)) l)) .gave)
-          → outAmong (cond b (sample w true l c ch p) []) ≡ false
-      go true g = rw g
-      go false g = refl
+      go : (b : Bool) → Tells (cond b (movedOn ch l (given true l (firstOf c) (ch .loaded) (lasting 1) p (ch .shown))) (quiet (side (with ch Rest (ch .shown)) l)) .gave)
+          (cond b (sample w true l c ch p) [])
+      go true = sampled w true p _
+      go false = nothing
 
-  moved-told : (p : Phase) → GaveIn t (moveAt p z l c ch .gave) → outAmong (inPhase p w z l c ch) ≡ false
+  move-tells : (p : Phase) → Tells (moveAt p z l c ch .gave) (inPhase p w z l c ch)
   unfolding moveAt countTo
-  moved-told Rest g = refl
-  moved-told (Counting n older) g = go (eqb (n .0 - 1) 0) (loadsAt (n .0 - 1)) g
+  move-tells Rest = nothing
+  move-tells (Counting n older) = go (eqb (n .0 - 1) 0) (loadsAt (n .0 - 1))
     where
       m : Moved
       m = advance l (firstOf c) (ch .loaded) older (ch .shown)
 
       go : (a b : Bool)
-          → GaveIn t (cond a (start z l c ch) (cond b (quiet (load z l c ch (ch .level))) (move (with ch (Counting (record { 0 = n .0 - 1 }) (m .ramp)) (m .shown)) l (m .gave))) .gave)
-          → outAmong (cond a (byStart w z l c ch) (cond b (Load (loadedFor z c (ch .level)) ∷ []) (byRamp w l c ch older))) ≡ false
-      go true b g = start-told g
-      go false true g = refl
-      go false false g = ramp-told older g
-  moved-told (Running r) g = ramp-told (Going r) g
-  moved-told (FreeRunning r) g = ramp-told (Free r) g
+          → Tells (cond a (start z l c ch) (cond b (quiet (load z l c ch (ch .level))) (move (with ch (Counting (record { 0 = n .0 - 1 }) (m .ramp)) (m .shown)) l (m .gave))) .gave)
+          (cond a (byStart w z l c ch) (cond b (Load (loadedFor z c (ch .level)) ∷ []) (byRamp w l c ch older)))
+      go true b = start-tells
+      go false true = loaded _
+      go false false = ramp-tells older
+  move-tells (Running r) = ramp-tells (Going r)
+  move-tells (FreeRunning r) = ramp-tells (Free r)
 
--- and A39 stays, or the sine's product is out of range
-abbrev Counted : ℕ → List ℕ → Channel → Channel → Type 0
-Counted c w x y =
-    (y .signal .overflow ≡ x .signal .overflow) ⊎ ((isSine (x .loaded .tone .mode) ≡ true) × (sineOf w c (y .signal .counter) (y .shown .amplitude) ≡ Overflow))
+-- so nothing out of range is told
+in-told : (t : Tone) (g : Gave) (hs : List Happening) → Tells g hs → GaveIn t g → outBeforeLoad hs ≡ false
+in-told t _ _ nothing h = refl
+in-told t _ _ (loaded ld) h = refl
+in-told t _ _ (sampled w f p u) h = rw h
+in-told t _ _ (freed w) h = refl
+
+-- ---- what is made of it: A39 stays, or the sine's product is out of range
+
+abbrev gaveSample : Gave → Bool
+gaveSample NoSample = false
+gaveSample (OfRamp f u) = true
+gaveSample OfFreeRun = true
+
+sample-told : (g : Gave) (hs : List Happening) → Tells g hs → gaveSample g ≡ true → sampleAmong hs ≡ true
+sample-told _ _ nothing h = h
+sample-told _ _ (loaded ld) h = h
+sample-told _ _ (sampled w f p u) h = refl
+sample-told _ _ (freed w) h = refl
 
 module _ (c : ℕ) (w : List ℕ) where
-  abbrev MadeIn : Tone → ℕ → Signal → Signal → Type 0
-  MadeIn t a y z = (z .overflow ≡ y .overflow) ⊎ ((isSine (t .mode) ≡ true) × (sineOf w c (z .counter) a ≡ Overflow))
+  record Product (t : Tone) (a : ℕ) (y z : Signal) : Type 0 where
+    sine : isSine (t .mode) ≡ true
+    product : sineOf w c (z .counter) a ≡ Overflow
+    grows : z .overflow ≡ grown (y .overflow)
 
-  sine-in : (t : Tone) → isSine (t .mode) ≡ true → (n a : ℕ) (y : Signal) → MadeIn t a y (sineAfter w c n a false y)
+  sine-in : (t : Tone) → isSine (t .mode) ≡ true → (n a : ℕ) (y : Signal)
+      → (sineAfter w c n a false y .overflow ≡ y .overflow) ⊎ Product t a y (sineAfter w c n a false y)
   sine-in t h n a y = go (sineOf w c n a) refl
     where
-      go : (r : Sum) → sineOf w c n a ≡ r → MadeIn t a y (signalAfter r false n y)
+      go : (r : Sum) → sineOf w c n a ≡ r → (signalAfter r false n y .overflow ≡ y .overflow) ⊎ Product t a y (signalAfter r false n y)
       go (Word d) e = inl refl
-      go Overflow e = inr (h, e)
+      go Overflow e = inr (record { sine = h; product = e; grows = refl })
 
-  made-in : (g : Gave) (t : Tone) → GaveIn t g → (a : ℕ) (y : Signal) → MadeIn t a y (makeOf w c g t a y)
+  -- the sample g is given
+  abbrev Made : Gave → Tone → ℕ → Signal → Signal → Type 0
+  Made g t a y z = (z .overflow ≡ y .overflow) ⊎ ((gaveSample g ≡ true) × Product t a y z)
+
+  given-so : {A B : Type 0} → A ⊎ B → A ⊎ ((true ≡ true) × B)
+  given-so (inl x) = inl x
+  given-so (inr y) = inr (refl, y)
+
+  made-in : (g : Gave) (t : Tone) → GaveIn t g → (a : ℕ) (y : Signal) → Made g t a y (makeOf w c g t a y)
   unfolding makeOf
   made-in NoSample t h a y = inl refl
   made-in (OfRamp f (Word d)) t h a y = go (isSine (t .mode)) refl
     where
-      go : (b : Bool) → isSine (t .mode) ≡ b → MadeIn t a y (cond b (sineAfter w c (counterAt f t (y .counter)) a false y) (signalAfter (Word d) false (y .counter) y))
-      go true e = sine-in t e (counterAt f t (y .counter)) a y
+      go : (b : Bool) → isSine (t .mode) ≡ b
+          → Made (OfRamp f (Word d)) t a y (cond b (sineAfter w c (counterAt f t (y .counter)) a false y) (signalAfter (Word d) false (y .counter) y))
+      go true e = given-so (sine-in t e (counterAt f t (y .counter)) a y)
       go false e = inl refl
   made-in (OfRamp f Overflow) t h a y = absurd (true≢false h)
-  made-in OfFreeRun t h a y = sine-in t h (counterNext t (y .counter)) a y
+  made-in OfFreeRun t h a y = given-so (sine-in t h (counterNext t (y .counter)) a y)
+
+  made-told : (g : Gave) (hs : List Happening) → Tells g hs → (t : Tone) (a : ℕ) (y z : Signal) → Made g t a y z
+      → (z .overflow ≡ y .overflow) ⊎ ((sampleAmong hs ≡ true) × Product t a y z)
+  made-told g hs k t a y z (inl e) = inl e
+  made-told g hs k t a y z (inr (m, p)) = inr (sample-told g hs k m, p)
+
+-- of a channel, from x to y, hs being what is told of the tick
+abbrev Counted : ℕ → List ℕ → List Happening → Channel → Channel → Type 0
+Counted c w hs x y =
+    (y .signal .overflow ≡ x .signal .overflow) ⊎ ((sampleAmong hs ≡ true) × Product c w (x .loaded .tone) (y .shown .amplitude) (x .signal) (y .signal))
+
+-- ---- a load, by counting
+
+counts-load : (z w l : List ℕ) (c : ℕ) (ch : Channel) → loadsAt (toStart (ch .phase) - 1) ≡ true → tickOf z w l c ch ≡ load z l c ch (ch .level)
+counts-load z w l c ch = go (ch .phase) refl
+  where
+    go : (p : Phase) → ch .phase ≡ p → loadsAt (toStart p - 1) ≡ true → tickOf z w l c ch ≡ load z l c ch (ch .level)
+    go (Counting n older) e q = let d = eqb-true (n .0 - 1) lead q in tick-load z l c ch w (n .0) older e (omega arith)
+    go Rest e q = absurd (true≢false (sym q))
+    go (Running r) e q = absurd (true≢false (sym q))
+    go (FreeRunning r) e q = absurd (true≢false (sym q))
+
+-- what is told of it is no sample
+load-told : (w z l : List ℕ) (c : ℕ) (ch : Channel) → loadsAt (toStart (ch .phase) - 1) ≡ true → outBeforeLoad (byTick w z l c ch) ≡ false
+load-told w z l c ch q =
+    rw (counting-load w z l c ch (ch .phase) (tick-loads w z l c ch (ch .phase) ∙ q))
 
 -- a countdown that is set and does not load stands above 10
 not-load : (z : List ℕ) (c level : ℕ) → loadsAt (countdown z c level) ≡ false → lead < countdown z c level
@@ -170,14 +233,14 @@ module _ (s : List ℕ) (c v : ℕ) where
   Holds x = Held c v s 0 0 x
 
   -- a sample before the last
-  record At (p : Place) : Type 0 where
+  record BeforeLast (p : Place) : Type 0 where
     number : ℕ
     before : number < T
     here : p ≡ spot number
 
   abbrev Ours : Ramp → Type 0
   Ours Still = Unit
-  Ours (Going r) = At (r .place)
+  Ours (Going r) = BeforeLast (r .place)
   Ours (Free r) = freeFor s c v ≡ true
 
   -- the ramp, if any, is that of the copy; after a reset there is none, and none can start before the next load
@@ -269,7 +332,7 @@ module _ (s : List ℕ) (c v : ℕ) where
         (ap (λ (p : Place). next (x .tables) (firstOf c) p) (o .here) ∙ next-spot x h (o .number) (o .before)))
     ramp-steps x h (Free r) o =
         choose (Steps (x .channel .loaded)) (ltb 1 (r .wait .0)) _ _ (record { ours = o; gave = tt })
-        (record { ours = o; gave = rw (h .loaded) (and-left (sineFor s c v) _ o) })
+        (record { ours = o; gave = rw (h .loaded) (and-first (sineFor s c v) _ o) })
 
     -- ---- a tick's first pass
 
@@ -330,20 +393,33 @@ module _ (s : List ℕ) (c v : ℕ) where
     sounded-under : (ch : Channel) (l : List ℕ) (g : Signal) → Under (side ch l) → Under (side (withSignal ch g) l)
     sounded-under ch l g u = kept-under (side ch l) (side (withSignal ch g) l) refl refl (λ i h. refl) u
 
-    module _ (z w : List ℕ) (x : Side) (u : Under x) (none : loadsAt (toStart (x .channel .phase) - 1) ≡ false) where
-      abbrev safe : Safe (x .channel) (moveOf z (x .tables) c (x .channel))
-      safe = move-safe z x u (x .channel .phase) refl none
+    module _ (z w : List ℕ) (x : Side) (u : Under x) where
+      safe : loadsAt (toStart (x .channel .phase) - 1) ≡ false → Safe (x .channel) (moveOf z (x .tables) c (x .channel))
+      safe none = move-safe z x u (x .channel .phase) refl none
 
-      tick-under : Under (tickOf z w (x .tables) c (x .channel))
+      tick-under : loadsAt (toStart (x .channel .phase) - 1) ≡ false → Under (tickOf z w (x .tables) c (x .channel))
       unfolding tickOf
-      tick-under = sounded-under _ _ _ (safe .under)
+      tick-under none = sounded-under _ _ _ (safe none .under)
 
-      tick-told : outAmong (byTick w z (x .tables) c (x .channel)) ≡ false
-      tick-told = moved-told w z (x .tables) c (x .channel) (x .channel .loaded .tone) (x .channel .phase) (safe .gave)
+      -- with a load or without
+      tick-told : outBeforeLoad (byTick w z (x .tables) c (x .channel)) ≡ false
+      tick-told = go (loadsAt (toStart (x .channel .phase) - 1)) refl
+        where
+          go : (b : Bool) → loadsAt (toStart (x .channel .phase) - 1) ≡ b → outBeforeLoad (byTick w z (x .tables) c (x .channel)) ≡ false
+          go true q = load-told w z (x .tables) c (x .channel) q
+          go false q = in-told (x .channel .loaded .tone) _ _ (move-tells w z (x .tables) c (x .channel) (x .channel .phase)) (safe q .gave)
 
-      tick-counted : Counted c w (x .channel) (tickOf z w (x .tables) c (x .channel) .channel)
-      unfolding tickOf
-      tick-counted = rw (safe .loaded, safe .signal) (made-in c w _ (x .channel .loaded .tone) (safe .gave) _ (x .channel .signal))
+      tick-counted : Counted c w (byTick w z (x .tables) c (x .channel)) (x .channel) (tickOf z w (x .tables) c (x .channel) .channel)
+      unfolding tickOf load
+      tick-counted = go (loadsAt (toStart (x .channel .phase) - 1)) refl
+        where
+          go : (b : Bool) → loadsAt (toStart (x .channel .phase) - 1) ≡ b
+              → Counted c w (byTick w z (x .tables) c (x .channel)) (x .channel) (tickOf z w (x .tables) c (x .channel) .channel)
+          go true q = inl (ap (λ (y : Side). y .channel .signal .overflow) (counts-load z w (x .tables) c (x .channel) q))
+          go false q =
+              rw (safe q .loaded, safe q .signal)
+              (made-told c w _ _ (move-tells w z (x .tables) c (x .channel) (x .channel .phase)) (x .channel .loaded .tone) _ (x .channel .signal) _
+              (made-in c w _ (x .channel .loaded .tone) (safe q .gave) _ (x .channel .signal)))
 
 -- ---- the card's channel c
 
@@ -355,139 +431,163 @@ or-left : (a b : Bool) → a || b ≡ true → b ≡ false → a ≡ true
 or-left true b e f = refl
 or-left false b e f = absurd (true≢false (sym e ∙ f))
 
-out-append : (hs js : List Happening) → outAmong hs ≡ false → outAmong js ≡ false → outAmong (hs ++ js) ≡ false
-out-append [] js p q = q
-out-append (Load ld ∷ hs) js p q = out-append hs js p q
-out-append (Sample w f x u ∷ hs) js p q = let r = or-none (overflows u) (outAmong hs) p in rw (r .0) (out-append hs js (r .1) q)
-out-append (FreeSample w ∷ hs) js p q = out-append hs js p q
-out-append (Output v ∷ hs) js p q = out-append hs js p q
-out-append (Clear ∷ hs) js p q = out-append hs js p q
-out-append (Fresh ∷ hs) js p q = out-append hs js p q
+abbrev In : List Happening → Type 0
+In hs = outBeforeLoad hs ≡ false
+
+in-append : (hs js : List Happening) → In hs → In js → In (hs ++ js)
+in-append [] js p q = q
+in-append (Load ld ∷ hs) js p q = refl
+in-append (Sample w f x u ∷ hs) js p q = let r = or-none (overflows u) (outBeforeLoad hs) p in rw (r .0) (in-append hs js (r .1) q)
+in-append (FreeSample w ∷ hs) js p q = in-append hs js p q
+in-append (Output v ∷ hs) js p q = in-append hs js p q
+in-append (Clear ∷ hs) js p q = in-append hs js p q
+in-append (Fresh ∷ hs) js p q = in-append hs js p q
+
+-- what comes after a load is not looked at
+in-load : (hs js : List Happening) → loadAmong hs ≡ true → In hs → In (hs ++ js)
+in-load [] js l p = absurd (true≢false (sym l))
+in-load (Load ld ∷ hs) js l p = refl
+in-load (Sample w f x u ∷ hs) js l p = let r = or-none (overflows u) (outBeforeLoad hs) p in rw (r .0) (in-load hs js l (r .1))
+in-load (FreeSample w ∷ hs) js l p = in-load hs js l p
+in-load (Output v ∷ hs) js l p = in-load hs js l p
+in-load (Clear ∷ hs) js l p = in-load hs js l p
+in-load (Fresh ∷ hs) js l p = in-load hs js l p
 
 -- triggers and words give no samples
-trigger-told : (r : Holder) (s : List ℕ) (c : ℕ) → outAmong (byTrigger r s c) ≡ false
-trigger-told (Level l) s c = choose (λ hs. outAmong hs ≡ false) (loadsAt (countdown s c l)) _ _ refl refl
-trigger-told Nobody s c = refl
+trigger-in : (r : Holder) (s : List ℕ) (c : ℕ) → In (byTrigger r s c)
+trigger-in (Level l) s c = choose In (loadsAt (countdown s c l)) _ _ refl refl
+trigger-in Nobody s c = refl
 
-words-told : (c a : ℕ) (vs : List ℕ) → outAmong (byWords c a vs) ≡ false
-words-told c a [] = refl
-words-told c a (v ∷ vs) =
-    out-append (byWord c a v) (byWords c (a + 1) vs)
-    (choose None (eqb a (base c + 0xA04)) _ _ refl (choose None (eqb a (base c + 0xA39)) _ _ refl refl))
-    (words-told c (a + 1) vs)
-  where
-    None : List Happening → Type 0
-    None hs = outAmong hs ≡ false
+words-in : (c a : ℕ) (vs : List ℕ) → In (byWords c a vs)
+words-in c a [] = refl
+words-in c a (v ∷ vs) =
+    in-append (byWord c a v) (byWords c (a + 1) vs)
+    (choose In (eqb a (base c + 0xA04)) _ _ refl (choose In (eqb a (base c + 0xA39)) _ _ refl refl))
+    (words-in c (a + 1) vs)
+
+-- a turn of channel c: what is so of it where its turn comes, and of the card's channel once all have had theirs
+module _ (s : List ℕ) (c v : ℕ) (f : ℕ → List ℕ → Channel → Side)
+    (beside : (b c : ℕ) (l : List ℕ) (ch : Channel) → (b ≡ c → ⊥) → C.elsewhere c l (f b l ch .tables) ≡ f b l ch .tables) (k : Card) (l : List ℕ)
+    (y : Turn f beside k l c) (room : 128 * c + 128 ≤ length l) where
+  comes-under : Under s c v (side (channelOf k c) l) → Under s c v (side (channelOf k c) (y .mid))
+  comes-under u = subst (Under s c v) (y .comes) (untimed-under s c v (side (channelOf k c) l) (y .before) (y .none) room u)
+
+  goes-under : length (f c (y .mid) (channelOf k c) .tables) ≡ length (y .mid) → (z : Side) → C.run c (f c (y .mid) (channelOf k c)) (y .after) ≡ z
+      → Under s c v (f c (y .mid) (channelOf k c)) → Under s c v z
+  goes-under e z g u = subst (Under s c v) g (untimed-under s c v _ (y .after) (y .none-after) (omega (arith, mid-length f beside k l c y)) u)
 
 module _ (s : List ℕ) (c v : ℕ) (inside : c < 4) where
   abbrev UnderIn : State → Type 0
   UnderIn y = Under s c v (sideAt y c)
 
-  -- an accepted trigger that does not load channel c
+  -- an accepted trigger, if channel c is so once it has come to it
+  struck-so : (y : State) (level event : ℕ) → 512 ≤ length (y .tables)
+      → (let t = trigger-turn y level c inside in Under s c v (triggered (y .settings) (t .mid) c (channelOf (y .card) c) level)) → UnderIn (triggerOf y level event)
+  struck-so y level event room u =
+      let t = trigger-turn y level c inside in
+      goes-under s c v _ _ (y .card) (y .tables) t (omega arith) (trigger-length (y .settings) (t .mid) c (channelOf (y .card) c) level) _ (trigger-goes y level event c t) u
+
+  -- one that does not load it
   struck-under : (y : State) (level event : ℕ) → 512 ≤ length (y .tables) → loadsAt (countdown (y .settings) c level) ≡ false → UnderIn y → UnderIn (triggerOf y level event)
   struck-under y level event room l u =
-      subst (Under s c v) (trigger-goes y level event c t)
-      (untimed-under s c v _ (t .after) (t .none-after) (omega (arith, long, trigger-length (y .settings) (t .mid) c (channelOf (y .card) c) level))
-      (triggered-under s c v (y .settings) (side (channelOf (y .card) c) (t .mid)) level l
-      (subst (Under s c v) (t .comes) (untimed-under s c v (sideAt y c) (t .before) (t .none) (omega arith) u))))
-    where
-      t : TriggerTurn y level c
-      t = trigger-turn y level c inside
+      let t = trigger-turn y level c inside in
+      struck-so y level event room
+      (triggered-under s c v (y .settings) (side (channelOf (y .card) c) (t .mid)) level l (comes-under s c v _ _ (y .card) (y .tables) t (omega arith) u))
 
-      long : length (t .mid) ≡ length (y .tables)
-      long = sym (ap (λ (x : Side). length (x .tables)) (t .comes)) ∙ run-length c (sideAt y c) (t .before)
+  -- a tick, likewise
+  ticked-so : (w : List ℕ) (y : State) → 512 ≤ length (y .tables)
+      → (let t = tick-turn w y c inside in Under s c v (tickOf (y .settings) w (t .mid) c (channelOf (y .card) c))) → UnderIn (advanced w y)
+  ticked-so w y room u =
+      let t = tick-turn w y c inside in
+      goes-under s c v _ _ (y .card) (y .tables) t (omega arith) (tick-length (y .settings) (t .mid) c (channelOf (y .card) c) w) _ (tick-goes w y c t) u
 
   module _ (fits : InRange s c v) where
-    -- a tick that does not load it by counting
-    module _ (w : List ℕ) (y : State) (h : Sound y) (u : UnderIn y) (l : loadAmong (inTick w y c) ≡ false) where
-      t : TickTurn w y c
+    module _ (w : List ℕ) (y : State) (h : Sound y) (u : UnderIn y) where
+      abbrev ch : Channel
+      ch = channelOf (y .card) c
+
+      abbrev t : TickTurn w y c
       t = tick-turn w y c inside
 
-      long : length (t .mid) ≡ length (y .tables)
-      long = sym (ap (λ (x : Side). length (x .tables)) (t .comes)) ∙ run-length c (sideAt y c) (t .before)
+      mid : Under s c v (side ch (t .mid))
+      mid = comes-under s c v _ _ (y .card) (y .tables) t (omega (arith, h .tables .many)) u
 
-      none : loadsAt (toStart (channelOf (y .card) c .phase) - 1) ≡ false
-      none = sym (tick-loads w (y .settings) (y .tables) c (channelOf (y .card) c) (channelOf (y .card) c .phase)) ∙ l
+      advanced-under : loadAmong (inTick w y c) ≡ false → UnderIn (advanced w y)
+      advanced-under l =
+          ticked-so w y (omega (arith, h .tables .many))
+          (tick-under s c v fits (y .settings) w (side ch (t .mid)) mid (sym (tick-loads w (y .settings) (y .tables) c ch (ch .phase)) ∙ l))
 
-      mid : Under s c v (side (channelOf (y .card) c) (t .mid))
-      mid = subst (Under s c v) (t .comes) (untimed-under s c v (sideAt y c) (t .before) (t .none) (omega (arith, h .tables .many)) u)
+      advanced-in : In (inTick w y c)
+      advanced-in = tick-told s c v fits (y .settings) w (sideAt y c) u
 
-      advanced-under : UnderIn (advanced w y)
-      advanced-under =
-          subst (Under s c v) (tick-goes w y c t)
-          (untimed-under s c v _ (t .after) (t .none-after) (omega (arith, long, h .tables .many, tick-length (y .settings) (t .mid) c (channelOf (y .card) c) w))
-          (tick-under s c v fits (y .settings) w (side (channelOf (y .card) c) (t .mid)) mid none))
+      -- the turn comes over other tables, and tells the same
+      same-told : byTick w (y .settings) (t .mid) c ch ≡ inTick w y c
+      same-told =
+          same-tick w (y .settings) (y .tables) (t .mid) c ch
+          (rw (t .comes) at (untimed-table c (sideAt y c) (t .before) (t .none) (omega (arith, h .tables .many))))
+          (ch .phase) (h .card .channels c .phase)
 
-      advanced-told : outAmong (inTick w y c) ≡ false
-      advanced-told = tick-told s c v fits (y .settings) w (sideAt y c) u none
-
-      advanced-counted : Counted c w (channelOf (y .card) c) (channelOf (advanced w y .card) c)
-      advanced-counted = rw (tick-same w y c t) at (tick-counted s c v fits (y .settings) w (side (channelOf (y .card) c) (t .mid)) mid none)
+      advanced-counted : Counted c w (inTick w y c) ch (channelOf (advanced w y .card) c)
+      advanced-counted =
+          subst (λ hs. Counted c w hs ch (channelOf (advanced w y .card) c)) same-told
+          (subst (λ k. Counted c w (byTick w (y .settings) (t .mid) c ch) ch k) (tick-same w y c t) (tick-counted s c v fits (y .settings) w (side ch (t .mid)) mid))
 
     -- ---- any act
 
-    record Goes (y : State) (z : Act) : Type 0 where
-      under : UnderIn (act y z)
-      told : outAmong (happens c y z) ≡ false
+    act-in : (y : State) → Sound y → UnderIn y → (z : Act) → In (happens c y z)
+    act-in y h u (Tick w event) = in-append (inTick w y c) _ (advanced-in w y h u) (trigger-in (triggerBy y (Tick w event)) (y .settings) c)
+    act-in y h u (Write start count ws) =
+        in-append (atTrigger y (Write start count ws) c) _ (trigger-in (triggerBy y (Write start count ws)) (y .settings) c) (words-in c start (wordsDone y start count ws))
+    act-in y h u (Ask what) = refl
+    act-in y h u (HandIn to ws) = refl
+    act-in y h u Reset = refl
 
-    act-goes : (y : State) → Sound y → UnderIn y → (z : Act) → loadAmong (happens c y z) ≡ false → Goes y z
-    act-goes y h u (Tick w event) l = go (triggerBy y (Tick w event)) refl
+    act-under : (y : State) → Sound y → UnderIn y → (z : Act) → loadAmong (happens c y z) ≡ false → UnderIn (act y z)
+    act-under y h u (Tick w event) l = go (triggerBy y (Tick w event)) refl
       where
         two : (loadAmong (inTick w y c) ≡ false) × (loadAmong (atTrigger y (Tick w event) c) ≡ false)
         two = or-none _ _ (sym (load-append (inTick w y c) (atTrigger y (Tick w event) c)) ∙ l)
 
-        told : outAmong (happens c y (Tick w event)) ≡ false
-        told = out-append (inTick w y c) _ (advanced-told w y h u (two .0)) (trigger-told (triggerBy y (Tick w event)) (y .settings) c)
-
-        after : UnderIn (advanced w y)
-        after = advanced-under w y h u (two .0)
-
-        go : (r : Holder) → triggerBy y (Tick w event) ≡ r → Goes y (Tick w event)
+        go : (r : Holder) → triggerBy y (Tick w event) ≡ r → UnderIn (act y (Tick w event))
         go (Level level) e =
-            record {
-              under =
-                  rw (trigger-is y (Tick w event) level e)
-                  (struck-under (advanced w y) level event (omega (arith, advanced-room w y, h .tables .many))
-                  (ap (λ (z : List ℕ). loadsAt (countdown z c level)) (advanced-settings w y) ∙ sym (trigger-loads (y .settings) c level) ∙ (rw e at (two .1))) after);
-              told = told;
-            }
-        go Nobody e = record { under = rw (quiet-tick w y event e) after; told = told }
-    act-goes y h u (Write start count ws) l = go (triggerBy y (Write start count ws)) refl
+            rw (trigger-is y (Tick w event) level e)
+            (struck-under (advanced w y) level event (omega (arith, advanced-room w y, h .tables .many))
+            (ap (λ (z : List ℕ). loadsAt (countdown z c level)) (advanced-settings w y) ∙ sym (trigger-loads (y .settings) c level) ∙ (rw e at (two .1)))
+            (advanced-under w y h u (two .0)))
+        go Nobody e = rw (quiet-tick w y event e) (advanced-under w y h u (two .0))
+    act-under y h u (Write start count ws) l = go (triggerBy y (Write start count ws)) refl
       where
         two : (loadAmong (atTrigger y (Write start count ws) c) ≡ false) × (loadAmong (byWords c start (wordsDone y start count ws)) ≡ false)
         two = or-none _ _ (sym (load-append (atTrigger y (Write start count ws) c) (byWords c start (wordsDone y start count ws))) ∙ l)
 
-        told : outAmong (happens c y (Write start count ws)) ≡ false
-        told = out-append (atTrigger y (Write start count ws) c) _ (trigger-told (triggerBy y (Write start count ws)) (y .settings) c) (words-told c start (wordsDone y start count ws))
-
-        go : (r : Holder) → triggerBy y (Write start count ws) ≡ r → Goes y (Write start count ws)
+        go : (r : Holder) → triggerBy y (Write start count ws) ≡ r → UnderIn (act y (Write start count ws))
         go (Level level) e =
-            record {
-              under =
-                  rw (trigger-is y (Write start count ws) level e)
-                  (struck-under y level 0xFE (omega (arith, h .tables .many)) (sym (trigger-loads (y .settings) c level) ∙ (rw e at (two .0))) u);
-              told = told;
-            }
+            rw (trigger-is y (Write start count ws) level e)
+            (struck-under y level 0xFE (omega (arith, h .tables .many)) (sym (trigger-loads (y .settings) c level) ∙ (rw e at (two .0))) u)
         go Nobody e =
             let p = write-part c inside y start count ws (h .card .four) e in
-            record { under = subst (Under s c v) (p .runs) (untimed-under s c v (sideAt y c) (p .acts) (p .none) (omega (arith, h .tables .many)) u); told = told }
-    act-goes y h u (Ask what) l = record { under = u; told = refl }
-    act-goes y h u (HandIn to ws) l = record { under = u; told = refl }
-    act-goes y h u Reset l = record { under = resting (ap (λ (ch : Channel). ch .phase) (four-fresh c inside)); told = refl }
+            subst (Under s c v) (p .runs) (untimed-under s c v (sideAt y c) (p .acts) (p .none) (omega (arith, h .tables .many)) u)
+    act-under y h u (Ask what) l = u
+    act-under y h u (HandIn to ws) l = u
+    act-under y h u Reset l = resting (ap (λ (ch : Channel). ch .phase) (four-fresh c inside))
 
-    record GoesOn (y : State) (ys : List Act) : Type 0 where
-      sound : Sound (acts y ys)
-      under : UnderIn (acts y ys)
-      told : outAmong (story c y ys) ≡ false
+    -- until the next load
+    acts-in : (y : State) → Sound y → UnderIn y → (ys : List Act) → Words16 ys → In (story c y ys)
+    acts-in y h u [] w = refl
+    acts-in y h u (z ∷ zs) w =
+        let r = one-sound y z zs w h in
+        go (loadAmong (happens c y z)) refl (λ l. acts-in (act y z) (r .0) (act-under y h u z l) zs (r .1))
+      where
+        go : (b : Bool) → loadAmong (happens c y z) ≡ b → (loadAmong (happens c y z) ≡ false → In (story c (act y z) zs)) → In (happens c y z ++ story c (act y z) zs)
+        go true q ih = in-load (happens c y z) _ q (act-in y h u z)
+        go false q ih = in-append (happens c y z) _ (act-in y h u z) (ih q)
 
-    acts-go : (y : State) → Sound y → UnderIn y → (ys : List Act) → Words16 ys → loadAmong (story c y ys) ≡ false → GoesOn y ys
-    acts-go y h u [] w l = record { sound = h; under = u; told = refl }
-    acts-go y h u (z ∷ zs) w l =
+    acts-under : (y : State) → Sound y → UnderIn y → (ys : List Act) → Words16 ys → loadAmong (story c y ys) ≡ false → Sound (acts y ys) × UnderIn (acts y ys)
+    acts-under y h u [] w l = (h, u)
+    acts-under y h u (z ∷ zs) w l =
         let two = or-none _ _ (sym (load-append (happens c y z) (story c (act y z) zs)) ∙ l) in
         let r = one-sound y z zs w h in
-        let g = act-goes y h u z (two .0) in
-        let n = acts-go (act y z) (r .0) (g .under) zs (r .1) (two .1) in
-        record { sound = n .sound; under = n .under; told = out-append (happens c y z) _ (g .told) (n .told) }
+        acts-under (act y z) (r .0) (act-under y h u z (two .0)) zs (r .1) (two .1)
 
 -- ---- the load
 
@@ -497,42 +597,19 @@ module _ (c : ℕ) (inside : c < 4) where
       → Under (y .settings) c level (sideAt (triggerOf y level event) c)
   unfolding triggered
   struck-load y level event room l =
-      subst (Under (y .settings) c level) (trigger-goes y level event c t)
-      (untimed-under (y .settings) c level _ (t .after) (t .none-after) (omega (arith, long, trigger-length (y .settings) (t .mid) c (channelOf (y .card) c) level)) at-load)
-    where
-      t : TriggerTurn y level c
-      t = trigger-turn y level c inside
-
-      long : length (t .mid) ≡ length (y .tables)
-      long = sym (ap (λ (x : Side). length (x .tables)) (t .comes)) ∙ run-length c (sideAt y c) (t .before)
-
-      at-load : Under (y .settings) c level (triggered (y .settings) (t .mid) c (channelOf (y .card) c) level)
-      at-load = rw l (load-under (y .settings) c level (side (channelOf (y .card) c) (t .mid)) (omega (arith, long)))
+      let t = trigger-turn y level c inside in
+      struck-so (y .settings) c level inside y level event room
+      (rw l (load-under (y .settings) c level (side (channelOf (y .card) c) (t .mid)) (omega (arith, mid-length _ _ (y .card) (y .tables) c t))))
 
   -- by counting
   counted-load : (w : List ℕ) (y : State) → 512 ≤ length (y .tables) → loadAmong (inTick w y c) ≡ true
       → Under (y .settings) c (channelOf (y .card) c .level) (sideAt (advanced w y) c)
   counted-load w y room l =
-      subst (Under (y .settings) c (ch .level)) (tick-goes w y c t)
-      (untimed-under (y .settings) c (ch .level) _ (t .after) (t .none-after) (omega (arith, long, tick-length (y .settings) (t .mid) c ch w))
-      (at-load (ch .phase) refl (sym (tick-loads w (y .settings) (y .tables) c ch (ch .phase)) ∙ l)))
-    where
-      ch : Channel
-      ch = channelOf (y .card) c
-
-      t : TickTurn w y c
-      t = tick-turn w y c inside
-
-      long : length (t .mid) ≡ length (y .tables)
-      long = sym (ap (λ (x : Side). length (x .tables)) (t .comes)) ∙ run-length c (sideAt y c) (t .before)
-
-      at-load : (p : Phase) → ch .phase ≡ p → loadsAt (toStart p - 1) ≡ true → Under (y .settings) c (ch .level) (tickOf (y .settings) w (t .mid) c ch)
-      at-load (Counting n older) e q =
-          let d = eqb-true (n .0 - 1) lead q in
-          rw (tick-load (y .settings) (t .mid) c ch w (n .0) older e (omega arith)) (load-under (y .settings) c (ch .level) (side ch (t .mid)) (omega (arith, long)))
-      at-load Rest e q = absurd (true≢false (sym q))
-      at-load (Running r) e q = absurd (true≢false (sym q))
-      at-load (FreeRunning r) e q = absurd (true≢false (sym q))
+      let ch = channelOf (y .card) c in
+      let t = tick-turn w y c inside in
+      ticked-so (y .settings) c (ch .level) inside w y room
+      (rw (counts-load (y .settings) w (t .mid) c ch (sym (tick-loads w (y .settings) (y .tables) c ch (ch .phase)) ∙ l))
+      (load-under (y .settings) c (ch .level) (side ch (t .mid)) (omega (arith, mid-length _ _ (y .card) (y .tables) c t))))
 
   -- the level of a load, and what it leaves
   record LoadOf (st : State) (x : Act) : Type 0 where
@@ -598,40 +675,56 @@ module _ (c : ℕ) (inside : c < 4) where
 
 -- ---- from the load on
 
-module _ (c : ℕ) (st : State) (x : Act) (ys : List Act) (p : PassedLoad c st x ys) where
-  then : Sound (act st x) × Words16 ys
-  then = one-sound st x ys (p .words) (p .sound)
+-- a trigger, with a load or without, leaves the signal and the amplitude
+triggered-keeps : (z l : List ℕ) (c : ℕ) (ch : Channel) (level : ℕ)
+    → (triggered z l c ch level .channel .signal ≡ ch .signal) × (triggered z l c ch level .channel .shown .amplitude ≡ ch .shown .amplitude)
+unfolding triggered load
+triggered-keeps z l c ch level = go (loadsAt (countdown z c level))
+  where
+    go : (b : Bool) → (cond b (load z l c ch level) (side (counting ch level (countdown z c level)) l) .channel .signal ≡ ch .signal)
+        × (cond b (load z l c ch level) (side (counting ch level (countdown z c level)) l) .channel .shown .amplitude ≡ ch .shown .amplitude)
+    go true = (refl, refl)
+    go false = (refl, refl)
+
+module _ (c : ℕ) (st : State) (x : Act) (p : PassedLoad c st x) where
+  sound : Sound (act st x)
+  sound = one-sound st x [] (p .words) (p .sound) .0
 
   abbrev from : LoadOf c (p .inside) st x
-  from = load-of c (p .inside) st (p .sound) x (then .0) (p .loads)
+  from = load-of c (p .inside) st (p .sound) x sound (p .loads)
 
   fits : InRange (st .settings) c (from .level)
   fits = verdict-right (st .settings) .passes (p .passed) c (from .level) (p .inside) (from .small)
 
-  goes : GoesOn (st .settings) c (from .level) (p .inside) fits (act st x) ys
-  goes = acts-go (st .settings) c (from .level) (p .inside) fits (act st x) (then .0) (from .under) ys (then .1) (p .untilNext)
+  sums-in : (ys : List Act) → Words16 ys → In (story c (act st x) ys)
+  sums-in ys w = acts-in (st .settings) c (from .level) (p .inside) fits (act st x) sound (from .under) ys w
 
-  -- and then a tick
-  abbrev y : State
-  y = acts (act st x) ys
+  module _ (ys : List Act) (words : Words16 ys) (none : loadAmong (story c (act st x) ys) ≡ false) (w : List ℕ) (event : ℕ) where
+    abbrev y : State
+    y = acts (act st x) ys
 
-  ticked : (w : List ℕ) (event : ℕ) → loadAmong (happens c y (Tick w event)) ≡ false → NoSumCounted c w y (act y (Tick w event))
-  ticked w event l = rw (overflow-register c (p .inside)) (go (triggerBy y (Tick w event)) refl)
-    where
-      two : (loadAmong (inTick w y c) ≡ false) × (loadAmong (atTrigger y (Tick w event) c) ≡ false)
-      two = or-none _ _ (sym (load-append (inTick w y c) (atTrigger y (Tick w event) c)) ∙ l)
+    moved : Counted c w (inTick w y c) (channelOf (y .card) c) (channelOf (advanced w y .card) c)
+    moved =
+        let r = acts-under (st .settings) c (from .level) (p .inside) fits (act st x) sound (from .under) ys words none in
+        advanced-counted (st .settings) c (from .level) (p .inside) fits w y (r .0) (r .1)
 
-      moved : Counted c w (channelOf (y .card) c) (channelOf (advanced w y .card) c)
-      moved = advanced-counted (st .settings) c (from .level) (p .inside) fits w y (goes .sound) (goes .under) (two .0)
+    -- the event leaves what is counted
+    event-keeps : Counted c w (inTick w y c) (channelOf (y .card) c) (channelOf (act y (Tick w event) .card) c)
+    event-keeps = go (triggerBy y (Tick w event)) refl
+      where
+        go : (r : Holder) → triggerBy y (Tick w event) ≡ r → Counted c w (inTick w y c) (channelOf (y .card) c) (channelOf (act y (Tick w event) .card) c)
+        go (Level level) e =
+            let k = triggered-keeps (advanced w y .settings) (trigger-turn (advanced w y) level c (p .inside) .mid) c (channelOf (advanced w y .card) c) level in
+            rw (struck-channel y (Tick w event) level e c (p .inside), k .0, k .1) moved
+        go Nobody e = rw (quiet-tick w y event e) moved
 
-      go : (r : Holder) → triggerBy y (Tick w event) ≡ r → Counted c w (channelOf (y .card) c) (channelOf (act y (Tick w event) .card) c)
-      go (Level level) e =
-          let far : lead < countdown (act y (Tick w event) .settings) c level =
-          rw (struck-settings y (Tick w event) level e, before-settings y (Tick w event))
-          (not-load (y .settings) c level (sym (trigger-loads (y .settings) c level) ∙ (rw e at (two .1)))) in
-          rw (older-goes-on .signal y (Tick w event) level e c (p .inside) far, older-goes-on .shown y (Tick w event) level e c (p .inside) far) moved
-      go Nobody e = rw (quiet-tick w y event e) moved
+    ticked : NoSumCounted c w y (act y (Tick w event))
+    ticked = go event-keeps
+      where
+        go : Counted c w (inTick w y c) (channelOf (y .card) c) (channelOf (act y (Tick w event) .card) c) → NoSumCounted c w y (act y (Tick w event))
+        go (inl e) = inl (rw (overflow-register c (p .inside)) e)
+        go (inr (g, d)) = inr (record { given = g; sine = d .sine; product = d .product; grows = rw (overflow-register c (p .inside)) (d .grows) })
 
 -- A RAMP LOADED UNDER SETTINGS THAT PASS HAS NO SUM OUT OF RANGE, UNTIL THE NEXT LOAD
 pub never-out : NeverOut
-never-out = record { sums = λ c st x ys p. goes c st x ys p .told; count = ticked }
+never-out = record { sums = sums-in; count = ticked }

@@ -26,7 +26,7 @@ pub mod Triggers
 pub mod Story
 pub mod Countdowns
 pub mod Loads
-pub mod InRange
 pub mod Active
 pub mod Named
+pub mod InRange
 pub mod Demand2

@@ -104,7 +104,7 @@ acts-levels st (x ∷ xs) h = acts-levels (act st x) xs (act-levels st x h)
 
 -- a load by counting is for the channel's pending level
 module _ (u s l : List ℕ) (c : ℕ) (ch : Channel) where
-  counting-load : (p : Phase) → loadAmong (inPhase p u s l c ch) ≡ true → inPhase p u s l c ch ≡ Load (loadedFor s c (ch .level)) ∷ []
+  pub counting-load : (p : Phase) → loadAmong (inPhase p u s l c ch) ≡ true → inPhase p u s l c ch ≡ Load (loadedFor s c (ch .level)) ∷ []
   counting-load Rest e = absurd (true≢false (sym e))
   counting-load (Counting n older) e = go (eqb (n .0 - 1) 0) (loadsAt (n .0 - 1)) e
     where

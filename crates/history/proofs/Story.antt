@@ -241,7 +241,7 @@ module _ (w s l m : List ℕ) (c : ℕ) (ch : Channel) (same : SameTable m (firs
       ap (λ (hs : List Happening). cond (eqb (word s (enableAt c)) 1) hs [])
       (same-at true _ _ (same-enter m (firstOf c) l (firstOf c) same 0 (omega arith)) (placed-enter l (firstOf c) 0 (omega arith)))
 
-  same-tick : (p : Phase) → PhaseSound p → inPhase p w s m c ch ≡ inPhase p w s l c ch
+  pub same-tick : (p : Phase) → PhaseSound p → inPhase p w s m c ch ≡ inPhase p w s l c ch
   same-tick Rest h = refl
   same-tick (Counting n older) h = rw (same-start, same-ramp older (h .ramp))
   same-tick (Running r) h = same-ramp (Going r) h

@@ -1,14 +1,16 @@
 -- The four channels take their turns, each over the tables that the one before left. So for one of them what the others do is done
 -- elsewhere in the tables, before its turn or after it. Assumes nothing.
-use mathlib.Core.Path.{_≡_, refl}
+use mathlib.Core.Path.{_≡_, refl, sym, ap, _∙_}
 use mathlib.Core.List.{List, [], _∷_}
 use Prim.Native.Nat.{ℕ, zero, suc, _<_}
 use native.Mathlib.Omega.{arith}
+use lib.ListN.{length}
 use Rattle.channel.specs.declared.Channel.{Channel}
 use Rattle.channel.specs.Channel.{Side, side}
 use Rattle.card.specs.declared.Card.{Card}
 use Rattle.card.specs.Card.{channelOf, withChannels, onAll}
 use Rattle.course.specs.Course as C
+use Rattle.course.proofs.Acts.{run-length}
 
 -- what happens on each channel, f, leaves the other channels' words of the tables
 module _ (f : ℕ → List ℕ → Channel → Side)
@@ -23,6 +25,9 @@ module _ (f : ℕ → List ℕ → Channel → Side)
     pub comes : C.run c (side (channelOf k c) l) before ≡ side (channelOf k c) mid
     pub same : f c mid (channelOf k c) .channel ≡ channelOf (withChannels k (onAll f k l .channels)) c
     pub goes : C.run c (f c mid (channelOf k c)) after ≡ side (channelOf (withChannels k (onAll f k l .channels)) c) (onAll f k l .tables)
+
+  pub mid-length : (c : ℕ) (y : Turn c) → length (y .mid) ≡ length l
+  mid-length c y = sym (ap (λ (x : Side). length (x .tables)) (y .comes)) ∙ run-length c (side (channelOf k c) l) (y .before)
 
   -- the four turns
   abbrev one : Side
