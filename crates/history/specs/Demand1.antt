@@ -1,5 +1,5 @@
--- Demand 1 of transfers, of wave tables, of saves and of checks: 'A bad one gets its number from document 01, checked in the order given there. Words before
--- the stopping word are done with all their effects, and nothing else changes.'
+-- Demand 1 of transfers, of wave tables and of saves: 'A bad one gets its number from document 01, checked in the order given there. Words
+-- before the stopping word are done with all their effects, and nothing else changes.' A check is never refused.
 use mathlib.Core.Path.{_≡_}
 use mathlib.Core.Bool.{true}
 use mathlib.Core.List.{List}
@@ -35,7 +35,7 @@ pub record Demand1 : Type 0 where
   pub tables : WaveTables
   -- every save
   pub saves : (st : State) (buffer : List ℕ) → SaveAnswered (st .settings) buffer (saveOf (st .settings) buffer)
-  -- every check: its verdict, which is no refusal
+  -- every check gets its verdict
   pub checks : (st : State) → VerdictRight (st .settings)
   -- the case of 7, in the paper's words
   pub seven : (s : List ℕ) (level event : ℕ) → heldAt s (R.Slot level) event ≡ true → HeldElsewhere s level event

@@ -11,6 +11,7 @@ use borrow.Author.Tests.{ltb-true, ltb-false, ne-eqb}
 use Rattle.word.specs.Table.{valueAt, stepAt, isEnd, stepsBefore}
 use Rattle.map.specs.Addresses.{tableAt}
 use Rattle.sum.specs.declared.Sum.{Sum}
+use Rattle.sum.specs.declared.Sum.the-variants.{Word, Overflow}
 use Rattle.sum.specs.declared.Side.{Side}
 use Rattle.sum.specs.declared.Side.the-variants.{Below, Within, Above}
 use Rattle.sum.specs.Sample.{sideOf, onSide, settled, totalOf, sampleOf}
@@ -25,7 +26,7 @@ use Rattle.course.specs.Points.{endPoint, total, placeOf, EndPoint, Samples}
 use Rattle.course.specs.Points as points
 use Rattle.course.specs.Follows.{tableFor}
 use Rattle.course.proofs.Walk.{on, end-63}
-use Rattle.course.proofs.Points.{differ, the-end, samples}
+use Rattle.course.proofs.Points.{differ, the-end, steps-suc, at-end, not-end, samples}
 use Rattle.profile.specs.declared.Break.{Break}
 use Rattle.profile.specs.declared.Out.{Out}
 use Rattle.profile.specs.declared.Out.the-variants.{At, Nowhere}
@@ -33,7 +34,7 @@ use Rattle.profile.specs.declared.Verdict.{Verdict}
 use Rattle.profile.specs.declared.Verdict.the-variants.{Passes, Breaks}
 use Rattle.profile.specs.Profile.{keeps, pointSum, firstOut, eachIn, levelVerdict}
 use Rattle.profile.specs.Points.{ownSum, outFrom}
-use Rattle.profile.proofs.Search.{each-in, in-each, first-out}
+use Rattle.profile.proofs.Search.{from-on, each-in, in-each, first-out}
 
 -- ---- a sum in range
 
@@ -56,13 +57,9 @@ between-in scale from to step left offset h l a b =
 module _ (w : List ℕ) (first : ℕ) where
   -- ---- time steps before a point
 
-  next-steps : (n : ℕ) → stepsBefore w first (suc n) ≡ stepsBefore w first n + stepAt w first n
-  unfolding stepsBefore
-  next-steps n = refl
-
   more-steps : (n d : ℕ) → stepsBefore w first n ≤ stepsBefore w first (d + n)
   more-steps n zero = let e : 0 + n ≡ n = omega arith in rw e (omega arith)
-  more-steps n (suc d) = let e : suc d + n ≡ suc (d + n) = omega arith in rw e (omega (arith, more-steps n d, next-steps (d + n)))
+  more-steps n (suc d) = let e : suc d + n ≡ suc (d + n) = omega arith in rw e (omega (arith, more-steps n d, steps-suc w first (d + n)))
 
   steps-mono : (m n : ℕ) → m ≤ n → stepsBefore w first m ≤ stepsBefore w first n
   steps-mono m n h = let e : n - m + m ≡ n = omega arith in rw e at (more-steps m (n - m))
@@ -90,13 +87,13 @@ module _ (w : List ℕ) (first : ℕ) where
     where
       go : (a : Bool) → ltb (p .segment) n ≡ a → (b : Bool) → ltb n (p .segment) ≡ b → p .segment ≡ n
       go true f b g = absurd (omega (arith, steps-mono (suc (p .segment)) n (omega (arith, ltb-true)), y .adds, y .some))
-      go false f true g = absurd (omega (arith, steps-mono (suc n) (p .segment) (omega (arith, ltb-true)), next-steps n, next-steps (p .segment), y .adds, y .few))
+      go false f true g = absurd (omega (arith, steps-mono (suc n) (p .segment) (omega (arith, ltb-true)), steps-suc w first n, steps-suc w first (p .segment), y .adds, y .few))
       go false f false g = omega (arith, ltb-false)
 
   left-is : (n : ℕ) (p : Place) → p .segment ≡ n → points.Within w first e (stepsBefore w first n) p → p .left .0 ≡ stepAt w first n
   left-is n p s y =
       let g : stepsBefore w first n + p .left .0 ≡ stepsBefore w first (suc n) = y .adds ∙ ap (λ (i : ℕ). stepsBefore w first (suc i)) s in
-      omega (arith, next-steps n)
+      omega (arith, steps-suc w first n)
 
   module _ (l : Loaded) where
     abbrev sums : ℕ → Sum
@@ -126,7 +123,7 @@ module _ (w : List ℕ) (first : ℕ) where
         go true q =
             let u : n < e = omega (arith, ltb-true) in
             let i = some-step n u in
-            let y = all .within (stepsBefore w first n) (omega (arith, next-steps n, steps-mono (suc n) e (omega arith), all .all)) in
+            let y = all .within (stepsBefore w first n) (omega (arith, steps-suc w first n, steps-mono (suc n) e (omega arith), all .all)) in
             let s = segment-is n (placeOf w first (stepsBefore w first n)) i y in
             point-own n (placeOf w first (stepsBefore w first n)) s (left-is n (placeOf w first (stepsBefore w first n)) s y) i
 
@@ -152,31 +149,8 @@ module _ (w : List ℕ) (first : ℕ) where
       nowhere : ((i : ℕ) → n ≤ i → i ≤ e → overflows (own i) ≡ false) → Found n Nowhere
 
     one-more : (n : ℕ) (o : Out) → overflows (own n) ≡ false → Found (n + 1) o → Found n o
-    one-more n o f (at m a b c d) = at m (omega arith) b c (λ i j k. step i j k (ltb n i) refl)
-      where
-        step : (i : ℕ) → n ≤ i → i < m → (x : Bool) → ltb n i ≡ x → overflows (own i) ≡ false
-        step i j k true q = d i (omega (arith, ltb-true)) k
-        step i j k false q = let s : i ≡ n = omega (arith, ltb-false) in rw s f
-    one-more n o f (nowhere d) = nowhere (λ i j k. step i j k (ltb n i) refl)
-      where
-        step : (i : ℕ) → n ≤ i → i ≤ e → (x : Bool) → ltb n i ≡ x → overflows (own i) ≡ false
-        step i j k true q = d i (omega (arith, ltb-true)) k
-        step i j k false q = let s : i ≡ n = omega (arith, ltb-false) in rw s f
-
-    -- the end point is the last looked at
-    at-end : (n : ℕ) → n ≤ e → isEnd n (stepAt w first n) ≡ true → n ≡ e
-    at-end n h q = go (ltb n e) refl
-      where
-        go : (x : Bool) → ltb n e ≡ x → n ≡ e
-        go true y = absurd (differ (isEnd n (stepAt w first n)) q (end .earlier n (omega (arith, ltb-true))))
-        go false y = omega (arith, ltb-false)
-
-    not-end : (n : ℕ) → n ≤ e → isEnd n (stepAt w first n) ≡ false → n + 1 ≤ e
-    not-end n h q = go (ltb n e) refl
-      where
-        go : (x : Bool) → ltb n e ≡ x → n + 1 ≤ e
-        go true y = omega (arith, ltb-true)
-        go false y = let s : n ≡ e = omega (arith, ltb-false) in absurd (differ (isEnd e (stepAt w first e)) (end .here) (rw s at q))
+    one-more n o f (at m a b p d) = at m (omega arith) b p (λ i j k. from-on (λ x. x < m → overflows (own x) ≡ false) n i j (λ h. f) (d i) k)
+    one-more n o f (nowhere d) = nowhere (λ i j k. from-on (λ x. x ≤ e → overflows (own x) ≡ false) n i j (λ h. f) (d i) k)
 
     walk : (f n : ℕ) → f + n ≡ 63 → n ≤ e → Found n (outFrom w first l (suc f) n)
     unfolding outFrom
@@ -186,14 +160,14 @@ module _ (w : List ℕ) (first : ℕ) where
         go true p = at n (omega arith) g p (λ i j k. absurd (omega arith))
         go false p =
             rw (end-63 n (stepAt w first n) (omega arith))
-            (nowhere (λ i j k. let s : i ≡ n = omega (arith, at-end n g (end-63 n (stepAt w first n) (omega arith))) in rw s p))
+            (nowhere (λ i j k. let s : i ≡ n = omega (arith, at-end w first e end n g (end-63 n (stepAt w first n) (omega arith))) in rw s p))
     walk (suc f) n h g = go (overflows (own n)) refl (isEnd n (stepAt w first n)) refl (walk f (n + 1) (omega arith))
       where
         go : (a : Bool) → overflows (own n) ≡ a → (b : Bool) → isEnd n (stepAt w first n) ≡ b → (n + 1 ≤ e → Found (n + 1) (outFrom w first l (suc f) (n + 1)))
             → Found n (cond a (At n) (cond b Nowhere (outFrom w first l (suc f) (n + 1))))
         go true p b q ih = at n (omega arith) g p (λ i j k. absurd (omega arith))
-        go false p true q ih = nowhere (λ i j k. let s : i ≡ n = omega (arith, at-end n g q) in rw s p)
-        go false p false q ih = one-more n _ p (ih (not-end n g q))
+        go false p true q ih = nowhere (λ i j k. let s : i ≡ n = omega (arith, at-end w first e end n g q) in rw s p)
+        go false p false q ih = one-more n _ p (ih (omega (arith, not-end w first e end n g q)))
 
 -- ---- a loop over the points: what is left from point n on is the whole
 
@@ -202,24 +176,26 @@ module _ (w : List ℕ) (first : ℕ) (l : Loaded) (n : ℕ) (h : n < 64) where
   left-one = omega arith
 
   -- V is read, and its sample made
-  pub own-is : {v : ℕ} {r : Sum} → v ≡ valueAt w first n → r ≡ sampleOf (l .scale) v v 0 0 (l .offset) → ownSum w first l n ≡ r
-  own-is e f = rw (← e) (sym f)
+  module _ {v : ℕ} {r : Sum} (read : v ≡ valueAt w first n) (made : r ≡ sampleOf (l .scale) v v 0 0 (l .offset)) where
+    own-is : ownSum w first l n ≡ r
+    own-is = rw (← read) (sym made)
 
-  -- Δt is read, and looked at
-  pub end-is : {d : ℕ} {b : Bool} → d ≡ stepAt w first n → b ≡ isEnd n d → isEnd n (stepAt w first n) ≡ b
-  end-is e f = rw (← e) (sym f)
+    pub here : r ≡ Overflow → outFrom w first l (64 - n) n ≡ At n
+    unfolding outFrom
+    here e = rw (left-one, own-is, e)
 
-  pub here : overflows (ownSum w first l n) ≡ true → outFrom w first l (64 - n) n ≡ At n
-  unfolding outFrom
-  here e = rw (left-one, e)
+    -- and Δt, which ends the ramp or not
+    module _ {x d : ℕ} {b : Bool} (e : r ≡ Word x) (step : d ≡ stepAt w first n) (ends : b ≡ isEnd n d) where
+      end-is : isEnd n (stepAt w first n) ≡ b
+      end-is = rw (← step) (sym ends)
 
-  pub end-here : overflows (ownSum w first l n) ≡ false → isEnd n (stepAt w first n) ≡ true → outFrom w first l (64 - n) n ≡ Nowhere
-  unfolding outFrom
-  end-here e f = rw (left-one, e, f)
+      pub end-here : b ≡ true → outFrom w first l (64 - n) n ≡ Nowhere
+      unfolding outFrom
+      end-here f = rw (left-one, own-is, e, end-is, f)
 
-  pub not-here : overflows (ownSum w first l n) ≡ false → isEnd n (stepAt w first n) ≡ false → outFrom w first l (64 - n) n ≡ outFrom w first l (64 - (n + 1)) (n + 1)
-  unfolding outFrom
-  not-here e f = rw (left-one, e, f)
+      pub not-here : b ≡ false → outFrom w first l (64 - n) n ≡ outFrom w first l (64 - (n + 1)) (n + 1)
+      unfolding outFrom
+      not-here f = rw (left-one, own-is, e, end-is, f)
 
 -- ---- the verdict on one ramp
 

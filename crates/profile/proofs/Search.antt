@@ -13,6 +13,14 @@ use Rattle.profile.specs.declared.Verdict.{Verdict}
 use Rattle.profile.specs.declared.Verdict.the-variants.{Passes, Breaks}
 use Rattle.profile.specs.Profile.{eachIn, firstOut, orElse, firstFrom}
 
+-- what is so of n, and from n + 1 on, is so from n on
+pub from-on : (P : ℕ → Type 0) (n i : ℕ) → n ≤ i → P n → (n + 1 ≤ i → P i) → P i
+from-on P n i h p q = go (ltb n i) refl
+  where
+    go : (b : Bool) → ltb n i ≡ b → P i
+    go true e = q (omega (arith, ltb-true))
+    go false e = let s : n ≡ i = omega (arith, ltb-false) in rw s at p
+
 -- ---- samples
 
 and-not : (a b : Bool) → a && not b ≡ true → (a ≡ true) × (b ≡ false)
@@ -31,11 +39,7 @@ module _ (sums : ℕ → Sum) where
   in-each zero e k l = absurd (omega arith)
   in-each (suc n) e k l =
       let last = and-not (eachIn sums n) (overflows (sums n)) e in
-      go (last .1) (ltb k n) refl (in-each n (last .0) k)
-    where
-      go : overflows (sums n) ≡ false → (b : Bool) → ltb k n ≡ b → (k < n → overflows (sums k) ≡ false) → overflows (sums k) ≡ false
-      go f true q ih = ih (omega (arith, ltb-true))
-      go f false q ih = let h : k ≡ n = omega (arith, ltb-false) in rw h f
+      from-on (λ m. overflows (sums m) ≡ false → overflows (sums k) ≡ false) k n (omega arith) (λ d. d) (λ h d. in-each n (last .0) k (omega arith)) (last .1)
 
   -- ---- points
 
@@ -68,23 +72,17 @@ module _ (f : ℕ → Verdict) where
   pub each-passes : (i n : ℕ) → firstFrom f i n ≡ Passes → (k : ℕ) → i ≤ k → k < i + n → f k ≡ Passes
   unfolding firstFrom
   each-passes i zero e k l g = absurd (omega arith)
-  each-passes i (suc n) e k l g = go (f i) refl (ltb i k) refl e (λ u h. each-passes (i + 1) n u k h (omega arith))
+  each-passes i (suc n) e k l g = go (f i) refl e (λ u h. each-passes (i + 1) n u k h (omega arith))
     where
-      go : (v : Verdict) → f i ≡ v → (x : Bool) → ltb i k ≡ x → orElse v (firstFrom f (i + 1) n) ≡ Passes
-          → (firstFrom f (i + 1) n ≡ Passes → i + 1 ≤ k → f k ≡ Passes) → f k ≡ Passes
-      go Passes p true q u ih = ih u (omega (arith, ltb-true))
-      go Passes p false q u ih = let h : k ≡ i = omega (arith, ltb-false) in rw h p
-      go (Breaks b) p x q u ih = let z : _≡_ {A = ℕ} 0 1 = cc in absurd (omega arith)
+      go : (v : Verdict) → f i ≡ v → orElse v (firstFrom f (i + 1) n) ≡ Passes → (firstFrom f (i + 1) n ≡ Passes → i + 1 ≤ k → f k ≡ Passes) → f k ≡ Passes
+      go Passes p u ih = from-on (λ j. f j ≡ Passes) i k l p (ih u)
+      go (Breaks b) p u ih = let z : _≡_ {A = ℕ} 0 1 = cc in absurd (omega arith)
 
   pub first-named : (i n : ℕ) (b : Break) → firstFrom f i n ≡ Breaks b → Named f i n b
   unfolding firstFrom
   first-named i zero b e = let z : _≡_ {A = ℕ} 0 1 = cc in absurd (omega arith)
   first-named i (suc n) b e = go (f i) refl e (first-named (i + 1) n b)
     where
-      before : f i ≡ Passes → (y : Named f (i + 1) n b) (k : ℕ) → i ≤ k → k < y .place → (x : Bool) → ltb i k ≡ x → f k ≡ Passes
-      before p y k l g true q = y .earlier k (omega (arith, ltb-true)) g
-      before p y k l g false q = let h : k ≡ i = omega (arith, ltb-false) in rw h p
-
       later : f i ≡ Passes → Named f (i + 1) n b → Named f i (suc n) b
       later p y =
           record {
@@ -92,7 +90,7 @@ module _ (f : ℕ → Verdict) where
             from = omega (arith, y .from);
             below = omega (arith, y .below);
             names = y .names;
-            earlier = λ k l g. before p y k l g (ltb i k) refl;
+            earlier = λ k l g. from-on (λ j. f j ≡ Passes) i k l p (λ h. y .earlier k h g);
           }
 
       go : (v : Verdict) → f i ≡ v → orElse v (firstFrom f (i + 1) n) ≡ Breaks b → (firstFrom f (i + 1) n ≡ Breaks b → Named f (i + 1) n b) → Named f i (suc n) b

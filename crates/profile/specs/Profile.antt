@@ -25,7 +25,7 @@ keeps s c level = eachIn (sumFor s c level) (totalFor s c level + 1)
 
 -- ---- what is told of one that breaks this
 
--- the sum of point n's own sample: as many samples come before it as the time steps before it say
+-- the sum at point n: its sample's number is the sum of the time steps before it
 abbrev pub pointSum : List ℕ → ℕ → ℕ → ℕ → Sum
 pointSum s c level n = sumFor s c level (stepsBefore s (tableFor s c level) n)
 
@@ -56,6 +56,7 @@ unfoldable pub firstFrom : (ℕ → Verdict) → ℕ → ℕ → Verdict
 firstFrom f i zero = Passes
 firstFrom f i (suc n) = orElse (f i) (firstFrom f (i + 1) n)
 
+-- one ramp: it keeps the profile, or breaks it
 unfoldable pub levelVerdict : List ℕ → ℕ → ℕ → Verdict
 levelVerdict s c level = cond (keeps s c level) Passes (Breaks (breakOf s c level))
 

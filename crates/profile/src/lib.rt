@@ -8,7 +8,7 @@ ghost use Rattle.map.specs.Addresses.{tableAt};
 ghost use Rattle.profile.specs.Profile.{levelVerdict, channelVerdict, verdictOf};
 ghost use Rattle.profile.specs.Points.{outFrom};
 
-// A bench passes, or names the first ramp that breaks the profile.
+// A bench passes, or the first ramp that breaks the profile is named.
 pub enum Verdict {
     Passes,
     Breaks(Break),
@@ -28,7 +28,7 @@ pub enum Out {
     Nowhere,
 }
 
-// The check: every channel in turn, and on each every level.
+// The verdict on a bench: the first channel, then level, that breaks the profile, if any.
 pub fn check(settings: &[u16; 16960]) -> Verdict
     ensures { λ r. ⌜ r ≡ verdictOf (lent settings) ⌝ }
 {
@@ -44,7 +44,7 @@ pub fn check(settings: &[u16; 16960]) -> Verdict
     Verdict::Passes
 }
 
-// The first level of channel c that breaks the profile.
+// The verdict on channel c: its first level that breaks the profile, if any.
 fn channel_verdict(settings: &[u16], c: u16) -> Verdict
     ensures { λ r. ⌜ r ≡ channelVerdict (lent settings) c ⌝ }
 {
@@ -60,7 +60,7 @@ fn channel_verdict(settings: &[u16], c: u16) -> Verdict
     Verdict::Passes
 }
 
-// Channel c's ramp for a level.
+// The verdict on channel c's ramp for a level.
 fn level_verdict(settings: &[u16], c: u16, level: u16) -> Verdict
     ensures { λ r. ⌜ r ≡ levelVerdict (lent settings) c level ⌝ }
 {
@@ -76,7 +76,7 @@ fn level_verdict(settings: &[u16], c: u16, level: u16) -> Verdict
     }
 }
 
-// The points of the table up to the ramp's end, one after the other.
+// The first point up to the ramp's end whose sum is out of range, if any.
 fn first_out(settings: &[u16], c: u16, loaded: Loaded) -> Out
     ensures { λ r. ⌜ r ≡ outFrom (lent settings) (tableAt c (loaded .table)) loaded 64 0 ⌝ }
 {
@@ -91,8 +91,7 @@ fn first_out(settings: &[u16], c: u16, loaded: Loaded) -> Out
             Sum::Word(_) => {}
             Sum::Overflow => return Out::At(point),
         }
-        let ended = word::ends(point as usize, Samples(word::get(settings, at + 1)));
-        if ended {
+        if word::ends(point as usize, Samples(word::get(settings, at + 1))) {
             return Out::Nowhere;
         }
     }

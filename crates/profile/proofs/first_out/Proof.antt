@@ -4,9 +4,8 @@ use borrow.Author.Needs.{needs}
 use mathlib.Core.Path.{_≡_, sym, ap, _∙_}
 use Prim.Native.Nat.{_-_, _≤_, _<_}
 use native.Mathlib.Omega.{arith}
-use Rattle.channel.specs.Signal.{overflows}
 use Rattle.profile.specs.Points.{outFrom}
-use Rattle.profile.proofs.Points.{own-is, end-is, here, end-here, not-here}
+use Rattle.profile.proofs.Points.{here, end-here, not-here}
 use Rattle.profile.proofs.first_out.Statement.{statement}
 use Rattle.profile.proofs.first_out.Tie as tie
 
@@ -59,9 +58,7 @@ returns : tie.Need-returns Inv-loop μ-loop
 returns c =
     let a = c .before .before .before .before .before .before .before .before .args in
     let l = c .before .before .before .before .before .loop in
-    let h : l .n < 64 = omega arith in
-    let o = own-is (a .settings .now) _ (a .loaded) (l .n) h (c .before .before .before .get .ensures) (c .before .before .sample .ensures) in
-    sym (here (a .settings .now) _ (a .loaded) (l .n) h (ap overflows (o ∙ c .enum-told2 .given .1))) ∙ l .inv .1
+    sym (here (a .settings .now) _ (a .loaded) (l .n) (omega arith) (c .before .before .before .get .ensures) (c .before .before .sample .ensures) (c .enum-told2 .given .1)) ∙ l .inv .1
 
 cast-ends : tie.Need-cast-ends Inv-loop μ-loop
 cast-ends c = search needs
@@ -78,11 +75,11 @@ ends-requires c κs = search needs
 returns-2 : tie.Need-returns-2 Inv-loop μ-loop
 returns-2 c =
     let a = c .before .before .before .before .before .before .before .before .before .before .before .args in
-    let l = c .before .before .before .before .before .before .before .before .loop in
-    let h : l .n < 64 = omega arith in
-    let o = own-is (a .settings .now) _ (a .loaded) (l .n) h (c .before .before .before .before .before .before .get .ensures) (c .before .before .before .before .before .sample .ensures) in
-    let e = end-is (a .settings .now) _ (a .loaded) (l .n) h (c .before .before .get2 .ensures) (c .before .ends .ensures) in
-    sym (end-here (a .settings .now) _ (a .loaded) (l .n) h (ap overflows (o ∙ c .before .before .before .enum-told .given .1)) (e ∙ c .if1 .taken)) ∙ l .inv .1
+    let s = c .before .before .before .before .before in
+    let l = s .before .before .before .loop in
+    sym (end-here (a .settings .now) _ (a .loaded) (l .n) (omega arith) (s .before .get .ensures) (s .sample .ensures) (c .before .before .before .enum-told .given .1)
+    (c .before .before .get2 .ensures) (c .before .ends .ensures) (c .if1 .taken))
+    ∙ l .inv .1
 
 loop-less : tie.Need-loop-less Inv-loop μ-loop
 loop-less c = search needs
@@ -90,11 +87,13 @@ loop-less c = search needs
 loop-again : tie.Need-loop-again Inv-loop μ-loop
 loop-again c =
     let a = c .before .before .before .before .before .before .before .before .before .before .before .args in
-    let l = c .before .before .before .before .before .before .before .before .loop in
-    let h : l .n < 64 = omega arith in
-    let o = own-is (a .settings .now) _ (a .loaded) (l .n) h (c .before .before .before .before .before .before .get .ensures) (c .before .before .before .before .before .sample .ensures) in
-    let e = end-is (a .settings .now) _ (a .loaded) (l .n) h (c .before .before .get2 .ensures) (c .before .ends .ensures) in
-    (search needs, sym (not-here (a .settings .now) _ (a .loaded) (l .n) h (ap overflows (o ∙ c .before .before .before .enum-told .given .1)) (e ∙ c .if1 .left)) ∙ l .inv .1)
+    let s = c .before .before .before .before .before in
+    let l = s .before .before .before .loop in (
+      search needs,
+      sym (not-here (a .settings .now) _ (a .loaded) (l .n) (omega arith) (s .before .get .ensures) (s .sample .ensures) (c .before .before .before .enum-told .given .1)
+          (c .before .before .get2 .ensures) (c .before .ends .ensures) (c .if1 .left))
+          ∙ l .inv .1,
+    )
 
 returns-3 : tie.Need-returns-3 Inv-loop μ-loop
 unfolding outFrom
