@@ -28,7 +28,8 @@ pub enum Out {
     Nowhere,
 }
 
-// The verdict on a bench: the first channel, then level, that breaks the profile, if any.
+// The verdict on a bench: the first channel, then level, that breaks the profile, if any. It is on ramp sums alone: a sine's product that
+// does not fit is none, and a ramp that was loaded before, under other settings, is not looked at.
 pub fn check(settings: &[u16; 16960]) -> Verdict
     ensures { λ r. ⌜ r ≡ verdictOf (lent settings) ⌝ }
 {
