@@ -1,7 +1,7 @@
 -- A ramp loaded under settings that pass has no sum out of range (`never-out`): from its load to the next a channel holds the copy, and its
 -- ramp stands at one of the samples that the check speaks of, or it has none to give. Assumes nothing.
 use mathlib.Core.Path.{_≡_, refl, sym, ap, _∙_, subst}
-use mathlib.Core.Bool.{Bool, true, false, _&&_, _||_, cond, true≢false}
+use mathlib.Core.Bool.{Bool, true, false, _||_, cond, true≢false}
 use mathlib.Core.Logic.{_⊎_, inl, inr}
 use mathlib.Core.List.{List, [], _∷_, _++_}
 use Prim.Native.Nat.{ℕ, _+_, _*_, _-_, _≤_, _<_}
@@ -45,7 +45,7 @@ use Rattle.course.specs.Points.{SameTable}
 use Rattle.course.specs.Follows.{tableFor, totalFor, placeFor, sineFor, freeFor}
 use Rattle.course.specs.Course as C
 use Rattle.course.proofs.Copies.{choose, tick-length, trigger-length}
-use Rattle.course.proofs.Acts.{run-length, untimed-table, untimed-ramp}
+use Rattle.course.proofs.Acts.{untimed-table, untimed-ramp}
 use Rattle.course.proofs.Tables.{same-enter, same-next, same-sample}
 use Rattle.course.proofs.Walk.{placed, place-first, place-step, place-more, place-last}
 use Rattle.course.proofs.Signals.{and-first}
@@ -66,7 +66,7 @@ use Rattle.history.proofs.Channels.{ramp-phase}
 use Rattle.history.proofs.Sound.{one-sound}
 use Rattle.history.proofs.Turns.{Turn, mid-length}
 use Rattle.history.proofs.Parts.{write-part}
-use Rattle.history.proofs.Tracks.{TickTurn, tick-turn, tick-same, tick-goes, TriggerTurn, trigger-turn, trigger-goes, trigger-is, advanced-room, struck-settings, before-settings, before-room, quiet-tick}
+use Rattle.history.proofs.Tracks.{TickTurn, tick-turn, tick-same, tick-goes, trigger-turn, trigger-goes, trigger-is, advanced-room, before-settings, before-room, quiet-tick}
 use Rattle.history.proofs.Story.{same-tick, four-fresh}
 use Rattle.history.proofs.Countdowns.{struck-channel}
 use Rattle.history.proofs.Loads.{load-append, words-load, tick-loads, trigger-loads, trigger-pending}

@@ -9,7 +9,6 @@ use Rattle.sum.specs.declared.Sum.the-variants.{Overflow}
 use Rattle.wave.specs.Sine.{sineOf}
 use Rattle.word.specs.Word.{grown}
 use Rattle.map.specs.Map.{base}
-use Rattle.channel.specs.declared.Channel.{Channel}
 use Rattle.channel.specs.Ramp.{isSine}
 use Rattle.channel.specs.Signal.{overflows}
 use Rattle.card.specs.Card.{State, channelOf}

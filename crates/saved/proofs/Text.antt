@@ -11,7 +11,7 @@ use lib.ListN.{length, getD, set, take, drop, length-append, take-append-drop}
 use lib.Seq.{sets, take-suc}
 use Rattle.word.proofs.Place.{at-place}
 use Rattle.digits.specs.Digits.{digitOf, hex2, hex4, hexAll}
-use Rattle.digits.proofs.Digits.{sets-append, then-at, length-hex2, length-hex4, length-hexAll, hexAll-next}
+use Rattle.digits.proofs.Digits.{then-at, length-hex2, length-hex4, length-hexAll, hexAll-next}
 use Rattle.saved.specs.declared.Span.{Span}
 use Rattle.saved.specs.Saved.{span, piece, pieces, cut, framesOf, wordsAt, frameText, lineText, textOf, Laid}
 use Rattle.saved.specs.Laws.{bytesIn}

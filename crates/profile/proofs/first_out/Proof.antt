@@ -1,8 +1,8 @@
 -- `profile::first_out` meets its contract. The loop's invariant: the walk from point n on has the answer of the whole walk. The measure is
 -- the number of points that are left. Assumes nothing.
 use borrow.Author.Needs.{needs}
-use mathlib.Core.Path.{_≡_, sym, ap, _∙_}
-use Prim.Native.Nat.{_-_, _≤_, _<_}
+use mathlib.Core.Path.{_≡_, sym, _∙_}
+use Prim.Native.Nat.{_-_, _≤_}
 use native.Mathlib.Omega.{arith}
 use Rattle.profile.specs.Points.{outFrom}
 use Rattle.profile.proofs.Points.{here, end-here, not-here}
