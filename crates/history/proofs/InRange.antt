@@ -1,56 +1,30 @@
--- A ramp loaded under settings that pass has no sum out of range (`never-out`): from its load to the next a channel holds the copy, and its
--- ramp stands at one of the samples that the check speaks of, or it has none to give. Assumes nothing.
+-- A ramp loaded under settings that pass has no sum out of range until the next load (`never-out`): every act but that load keeps channel c as
+-- the load left it, ramp and copy, in the sense of `Under`. Assumes nothing.
 use mathlib.Core.Path.{_≡_, refl, sym, ap, _∙_, subst}
 use mathlib.Core.Bool.{Bool, true, false, _||_, cond, true≢false}
-use mathlib.Core.Logic.{_⊎_, inl, inr}
+use mathlib.Core.Logic.{inl, inr}
 use mathlib.Core.List.{List, [], _∷_, _++_}
-use Prim.Native.Nat.{ℕ, _+_, _*_, _-_, _≤_, _<_}
+use Prim.Native.Nat.{ℕ, _+_, _*_, _≤_, _<_}
 use native.Mathlib.Omega.{arith}
-use native.Mathlib.Nat.{le-max-left}
-use lib.Dec.{ltb, eqb}
+use lib.Dec.{eqb}
 use lib.ListN.{length}
-use borrow.Author.Tests.{ne-eqb, eqb-true, eqb-false, ltb-true, ltb-false}
-use Rattle.sum.specs.declared.Sum.{Sum}
-use Rattle.sum.specs.declared.Sum.the-variants.{Word, Overflow}
-use Rattle.wave.specs.Sine.{sineOf}
 use Rattle.map.specs.Map.{base}
-use Rattle.map.specs.Addresses.{delayAt, enableAt}
 use Rattle.slots.specs.declared.Holder.{Holder}
 use Rattle.slots.specs.declared.Holder.the-variants.{Level, Nobody}
-use Rattle.word.specs.Word.{grown, lasting}
-use Rattle.word.specs.declared.Micros.{Micros}
-use Rattle.channel.specs.declared.Place.{Place}
-use Rattle.channel.specs.declared.Way.{Way}
-use Rattle.channel.specs.declared.Tone.{Tone}
-use Rattle.channel.specs.declared.Signal.{Signal}
-use Rattle.channel.specs.declared.Loaded.{Loaded}
-use Rattle.channel.specs.declared.Moved.{Moved}
-use Rattle.channel.specs.declared.Ramp.{Ramp}
-use Rattle.channel.specs.declared.Ramp.the-variants.{Still, Going, Free}
-use Rattle.channel.specs.declared.Phase.{Phase}
-use Rattle.channel.specs.declared.Phase.the-variants.{Rest, Counting, Running, FreeRunning}
-use Rattle.channel.specs.declared.Gave.{Gave}
-use Rattle.channel.specs.declared.Gave.the-variants.{NoSample, OfRamp, OfFreeRun}
 use Rattle.channel.specs.declared.Channel.{Channel}
-use Rattle.channel.specs.Ramp.{enter, next, sampleAt, way, isSine, ended, onward, given, sooner, unsampled, advance}
-use Rattle.channel.specs.Signal.{overflows, sineAfter, signalAfter, counterAt, counterNext, makeOf}
-use Rattle.channel.specs.Channel.{Side, Move, side, move, quiet, counting, word, with, withSignal, firstOf, lead, loadsAt, toStart, rampOf, phaseOf, load, start, countTo, moveAt, moveOf, movedOn, tickOf, loadedFor, countdown, triggered}
+use Rattle.channel.specs.Ramp.{given}
+use Rattle.channel.specs.Signal.{overflows}
+use Rattle.channel.specs.Channel.{Side, side, counting, loadsAt, load, start, tickOf, countdown, triggered}
 use Rattle.card.specs.declared.Card.{Card}
 use Rattle.card.specs.declared.Cause.{Cause}
 use Rattle.card.specs.Card.{State, channelOf}
 use Rattle.card.specs.Trigger.{triggerOf}
 use Rattle.card.specs.Tick.{advanced}
 use Rattle.card.proofs.Ticks.{advanced-settings}
-use Rattle.course.specs.Points.{SameTable}
-use Rattle.course.specs.Follows.{tableFor, totalFor, placeFor, sineFor, freeFor}
 use Rattle.course.specs.Course as C
 use Rattle.course.proofs.Copies.{choose, tick-length, trigger-length}
-use Rattle.course.proofs.Acts.{untimed-table, untimed-ramp}
-use Rattle.course.proofs.Tables.{same-enter, same-next, same-sample}
-use Rattle.course.proofs.Walk.{placed, place-first, place-step, place-more, place-last}
-use Rattle.course.proofs.Signals.{and-first}
-use Rattle.course.proofs.Moves.{tick-load}
-use Rattle.course.proofs.Course.{Held, loads}
+use Rattle.course.proofs.Acts.{untimed-table}
+use Rattle.course.proofs.Course.{loads}
 use Rattle.profile.specs.Laws.{InRange}
 use Rattle.profile.proofs.Right.{verdict-right}
 use Rattle.history.specs.History.{Act, Tick, Write, Ask, HandIn, Reset, act, acts, wordsDone, triggerBy, Words16}
@@ -58,11 +32,10 @@ use Rattle.history.specs.Sound.{Sound}
 use Rattle.history.specs.Triggers.{eventBy}
 use Rattle.history.specs.Countdowns.{justBefore}
 use Rattle.history.specs.Demand3.{sideAt}
-use Rattle.history.specs.Story.{Happening, Load, Sample, FreeSample, Output, Clear, Fresh, sample, byRamp, byStart, inPhase, byTick, byTrigger, byWord, byWords, inTick, atTrigger, happens, story}
+use Rattle.history.specs.Story.{Happening, Load, Sample, FreeSample, Output, Clear, Fresh, byTick, byTrigger, byWord, byWords, inTick, atTrigger, happens, story}
 use Rattle.history.specs.Active.{loadAmong}
-use Rattle.history.specs.InRange.{outBeforeLoad, sampleAmong, PassedLoad, NoSumCounted, NeverOut}
+use Rattle.history.specs.InRange.{outBeforeLoad, PassedLoad, NoSumCounted, NeverOut}
 use Rattle.history.proofs.Addresses.{overflow-register}
-use Rattle.history.proofs.Channels.{ramp-phase}
 use Rattle.history.proofs.Sound.{one-sound}
 use Rattle.history.proofs.Turns.{Turn, mid-length}
 use Rattle.history.proofs.Parts.{write-part}
@@ -70,356 +43,8 @@ use Rattle.history.proofs.Tracks.{TickTurn, tick-turn, tick-same, tick-
 use Rattle.history.proofs.Story.{same-tick, four-fresh}
 use Rattle.history.proofs.Countdowns.{struck-channel}
 use Rattle.history.proofs.Loads.{load-append, words-load, tick-loads, trigger-loads, trigger-pending}
-use Rattle.history.proofs.Named.{counting-load}
-
--- ---- what a tick gives, and what is told of it
-
--- no sum out of range; a sample of a free run is a sine
-abbrev GaveIn : Tone → Gave → Type 0
-GaveIn t NoSample = Unit
-GaveIn t (OfRamp f u) = overflows u ≡ false
-GaveIn t OfFreeRun = isSine (t .mode) ≡ true
-
-data Tells : Gave → List Happening → Type 0 where
-  nothing : Tells NoSample []
-  loaded : (ld : Loaded) → Tells NoSample (Load ld ∷ [])
-  sampled : (w : List ℕ) (f : Bool) (p : Place) (u : Sum) → Tells (OfRamp f u) (Sample w f p u ∷ [])
-  freed : (w : List ℕ) → Tells OfFreeRun (FreeSample w ∷ [])
-
-module _ (w z l : List ℕ) (c : ℕ) (ch : Channel) where
-  ramp-tells : (r : Ramp) → Tells (advance l (firstOf c) (ch .loaded) r (ch .shown) .gave) (byRamp w l c ch r)
-  unfolding advance given
-  ramp-tells Still = nothing
-  ramp-tells (Going r) = go (ltb 1 (r .wait .0))
-    where
-      p : Place
-      p = next l (firstOf c) (r .place)
-
-      go : (b : Bool) → Tells (cond b (unsampled (Going (sooner r)) (ch .shown)) (given false l (firstOf c) (ch .loaded) (r .period .0) p (ch .shown)) .gave)
-          (cond b [] (sample w false l c ch p))
-      go true = nothing
-      go false = sampled w false p _
-  ramp-tells (Free r) = go (ltb 1 (r .wait .0))
-    where
-      go : (b : Bool) → Tells (cond b (unsampled (Free (sooner r)) (ch .shown)) (record { ramp = Free (way (r .place) (r .period .0) (r .period .0)); shown = ch .shown; gave = OfFreeRun }) .gave)
-          (cond b [] (FreeSample w ∷ []))
-      go true = nothing
-      go false = freed w
-
-  start-tells : Tells (start z l c ch .gave) (byStart w z l c ch)
-  unfolding start given
-  start-tells = go (eqb (word z (enableAt c)) 1)
-    where
-      p : Place
-      p = enter l (firstOf c) 0
-
-      go : (b : Bool) → Tells (cond b (movedOn ch l (given true l (firstOf c) (ch .loaded) (lasting 1) p (ch .shown))) (quiet (side (with ch Rest (ch .shown)) l)) .gave)
-          (cond b (sample w true l c ch p) [])
-      go true = sampled w true p _
-      go false = nothing
-
-  move-tells : (p : Phase) → Tells (moveAt p z l c ch .gave) (inPhase p w z l c ch)
-  unfolding moveAt countTo
-  move-tells Rest = nothing
-  move-tells (Counting n older) = go (eqb (n .0 - 1) 0) (loadsAt (n .0 - 1))
-    where
-      m : Moved
-      m = advance l (firstOf c) (ch .loaded) older (ch .shown)
-
-      go : (a b : Bool)
-          → Tells (cond a (start z l c ch) (cond b (quiet (load z l c ch (ch .level))) (move (with ch (Counting (record { 0 = n .0 - 1 }) (m .ramp)) (m .shown)) l (m .gave))) .gave)
-          (cond a (byStart w z l c ch) (cond b (Load (loadedFor z c (ch .level)) ∷ []) (byRamp w l c ch older)))
-      go true b = start-tells
-      go false true = loaded _
-      go false false = ramp-tells older
-  move-tells (Running r) = ramp-tells (Going r)
-  move-tells (FreeRunning r) = ramp-tells (Free r)
-
--- so nothing out of range is told
-in-told : (t : Tone) (g : Gave) (hs : List Happening) → Tells g hs → GaveIn t g → outBeforeLoad hs ≡ false
-in-told t _ _ nothing h = refl
-in-told t _ _ (loaded ld) h = refl
-in-told t _ _ (sampled w f p u) h = rw h
-in-told t _ _ (freed w) h = refl
-
--- ---- what is made of it: A39 stays, or the sine's product is out of range
-
-abbrev gaveSample : Gave → Bool
-gaveSample NoSample = false
-gaveSample (OfRamp f u) = true
-gaveSample OfFreeRun = true
-
-sample-told : (g : Gave) (hs : List Happening) → Tells g hs → gaveSample g ≡ true → sampleAmong hs ≡ true
-sample-told _ _ nothing h = h
-sample-told _ _ (loaded ld) h = h
-sample-told _ _ (sampled w f p u) h = refl
-sample-told _ _ (freed w) h = refl
-
-module _ (c : ℕ) (w : List ℕ) where
-  record Product (t : Tone) (a : ℕ) (y z : Signal) : Type 0 where
-    sine : isSine (t .mode) ≡ true
-    product : sineOf w c (z .counter) a ≡ Overflow
-    grows : z .overflow ≡ grown (y .overflow)
-
-  sine-in : (t : Tone) → isSine (t .mode) ≡ true → (n a : ℕ) (y : Signal)
-      → (sineAfter w c n a false y .overflow ≡ y .overflow) ⊎ Product t a y (sineAfter w c n a false y)
-  sine-in t h n a y = go (sineOf w c n a) refl
-    where
-      go : (r : Sum) → sineOf w c n a ≡ r → (signalAfter r false n y .overflow ≡ y .overflow) ⊎ Product t a y (signalAfter r false n y)
-      go (Word d) e = inl refl
-      go Overflow e = inr (record { sine = h; product = e; grows = refl })
-
-  -- the sample g is given
-  abbrev Made : Gave → Tone → ℕ → Signal → Signal → Type 0
-  Made g t a y z = (z .overflow ≡ y .overflow) ⊎ ((gaveSample g ≡ true) × Product t a y z)
-
-  given-so : {A B : Type 0} → A ⊎ B → A ⊎ ((true ≡ true) × B)
-  given-so (inl x) = inl x
-  given-so (inr y) = inr (refl, y)
-
-  made-in : (g : Gave) (t : Tone) → GaveIn t g → (a : ℕ) (y : Signal) → Made g t a y (makeOf w c g t a y)
-  unfolding makeOf
-  made-in NoSample t h a y = inl refl
-  made-in (OfRamp f (Word d)) t h a y = go (isSine (t .mode)) refl
-    where
-      go : (b : Bool) → isSine (t .mode) ≡ b
-          → Made (OfRamp f (Word d)) t a y (cond b (sineAfter w c (counterAt f t (y .counter)) a false y) (signalAfter (Word d) false (y .counter) y))
-      go true e = given-so (sine-in t e (counterAt f t (y .counter)) a y)
-      go false e = inl refl
-  made-in (OfRamp f Overflow) t h a y = absurd (true≢false h)
-  made-in OfFreeRun t h a y = given-so (sine-in t h (counterNext t (y .counter)) a y)
-
-  made-told : (g : Gave) (hs : List Happening) → Tells g hs → (t : Tone) (a : ℕ) (y z : Signal) → Made g t a y z
-      → (z .overflow ≡ y .overflow) ⊎ ((sampleAmong hs ≡ true) × Product t a y z)
-  made-told g hs k t a y z (inl e) = inl e
-  made-told g hs k t a y z (inr (m, p)) = inr (sample-told g hs k m, p)
-
--- of a channel, from x to y, hs being what is told of the tick
-abbrev Counted : ℕ → List ℕ → List Happening → Channel → Channel → Type 0
-Counted c w hs x y =
-    (y .signal .overflow ≡ x .signal .overflow) ⊎ ((sampleAmong hs ≡ true) × Product c w (x .loaded .tone) (y .shown .amplitude) (x .signal) (y .signal))
-
--- ---- a load, by counting
-
-counts-load : (z w l : List ℕ) (c : ℕ) (ch : Channel) → loadsAt (toStart (ch .phase) - 1) ≡ true → tickOf z w l c ch ≡ load z l c ch (ch .level)
-counts-load z w l c ch = go (ch .phase) refl
-  where
-    go : (p : Phase) → ch .phase ≡ p → loadsAt (toStart p - 1) ≡ true → tickOf z w l c ch ≡ load z l c ch (ch .level)
-    go (Counting n older) e q = let d = eqb-true (n .0 - 1) lead q in tick-load z l c ch w (n .0) older e (omega arith)
-    go Rest e q = absurd (true≢false (sym q))
-    go (Running r) e q = absurd (true≢false (sym q))
-    go (FreeRunning r) e q = absurd (true≢false (sym q))
-
--- what is told of it is no sample
-load-told : (w z l : List ℕ) (c : ℕ) (ch : Channel) → loadsAt (toStart (ch .phase) - 1) ≡ true → outBeforeLoad (byTick w z l c ch) ≡ false
-load-told w z l c ch q =
-    rw (counting-load w z l c ch (ch .phase) (tick-loads w z l c ch (ch .phase) ∙ q))
-
--- a countdown that is set and does not load stands above 10
-not-load : (z : List ℕ) (c level : ℕ) → loadsAt (countdown z c level) ≡ false → lead < countdown z c level
-not-load z c level l = let d = eqb-false (countdown z c level) lead l in omega (arith, le-max-left lead (word z (delayAt c level)))
-
--- ---- one channel, from a load for level v under the settings s to the next
-
-module _ (s : List ℕ) (c v : ℕ) where
-  abbrev T : ℕ
-  T = totalFor s c v
-
-  abbrev spot : ℕ → Place
-  spot k = placeFor s c v k
-
-  -- the channel holds the copy
-  abbrev Holds : Side → Type 0
-  Holds x = Held c v s 0 0 x
-
-  -- a sample before the last
-  record BeforeLast (p : Place) : Type 0 where
-    number : ℕ
-    before : number < T
-    here : p ≡ spot number
-
-  abbrev Ours : Ramp → Type 0
-  Ours Still = Unit
-  Ours (Going r) = BeforeLast (r .place)
-  Ours (Free r) = freeFor s c v ≡ true
-
-  -- the ramp, if any, is that of the copy; after a reset there is none, and none can start before the next load
-  data Under (x : Side) : Type 0 where
-    holding : Holds x → Ours (rampOf (x .channel .phase)) → Under x
-    resting : x .channel .phase ≡ Rest → Under x
-    waiting : (n : Micros) → x .channel .phase ≡ Counting n Still → lead < n .0 → Under x
-
-  -- ---- what is no tick
-
-  -- phase, copy and words decide
-  kept-under : (x y : Side) → y .channel .phase ≡ x .channel .phase → y .channel .loaded ≡ x .channel .loaded
-      → SameTable (y .tables) (firstOf c) (x .tables) (firstOf c) → Under x → Under y
-  kept-under x y e f g (holding h o) = holding (record { loaded = f ∙ h .loaded; table = λ i k. g i k ∙ h .table i k }) (rw e o)
-  kept-under x y e f g (resting d) = resting (e ∙ d)
-  kept-under x y e f g (waiting n d l) = waiting n (e ∙ d) l
-
-  untimed-under : (x : Side) (ys : List C.Act) → C.ticksIn ys ≡ 0 → 128 * c + 128 ≤ length (x .tables) → Under x → Under (C.run c x ys)
-  untimed-under x ys e h u = let r = untimed-ramp c x ys e in kept-under x (C.run c x ys) (r .0) (r .1) (untimed-table c x ys e h) u
-
-  -- a trigger that does not load
-  triggered-under : (z : List ℕ) (x : Side) (level : ℕ) → loadsAt (countdown z c level) ≡ false → Under x → Under (triggered z (x .tables) c (x .channel) level)
-  unfolding triggered
-  triggered-under z x level l u = rw l (go u)
-    where
-      far : lead < countdown z c level
-      far = not-load z c level l
-
-      waits : rampOf (x .channel .phase) ≡ Still → Under (side (counting (x .channel) level (countdown z c level)) (x .tables))
-      waits e = waiting (record { 0 = countdown z c level }) (ap (λ (r : Ramp). Counting (record { 0 = countdown z c level }) r) e) far
-
-      go : Under x → Under (side (counting (x .channel) level (countdown z c level)) (x .tables))
-      go (holding h o) = holding (record { loaded = h .loaded; table = h .table }) o
-      go (resting d) = waits (ap rampOf d)
-      go (waiting n d g) = waits (ap rampOf d)
-
-  -- the load
-  load-under : (x : Side) → 128 * c + 128 ≤ length (x .tables) → Under (load s (x .tables) c (x .channel) v)
-  unfolding load
-  load-under x r = holding (loads c v s 0 0 x r) tt
-
-  -- ---- the samples, all of them in range
-
-  module _ (fits : InRange s c v) where
-    sum-in : (x : Side) → Holds x → (k : ℕ) → k ≤ T → overflows (sampleAt (x .tables) (firstOf c) (x .channel .loaded) (spot k)) ≡ false
-    sum-in x h k g =
-        rw (h .loaded) (ap overflows (same-sample (x .tables) (firstOf c) s (tableFor s c v) (h .table) (loadedFor s c v) (spot k) (placed s (tableFor s c v) k)) ∙ fits k g)
-
-    record Steps (ld : Loaded) (m : Moved) : Type 0 where
-      ours : Ours (m .ramp)
-      gave : GaveIn (ld .tone) (m .gave)
-
-    -- the ramp once sample k is given
-    onward-ours : (ld : Loaded) (period k : ℕ) → ld ≡ loadedFor s c v → k ≤ T → Ours (onward ld period (spot k))
-    unfolding ended
-    onward-ours ld period k e h = go (eqb (spot k .left .0) 0) refl
-      where
-        free : (r : Way) (b : Bool) → freeFor s c v ≡ b → Ours (cond b (Free r) Still)
-        free r true q = q
-        free r false q = tt
-
-        less : (b : Bool) → ltb k T ≡ b → eqb (spot k .left .0) 0 ≡ false → k < T
-        less true r q = ltb-true k T r
-        less false r q = absurd (eqb-false (spot k .left .0) 0 q (place-last s (tableFor s c v) k (omega (arith, ltb-false))))
-
-        go : (b : Bool) → eqb (spot k .left .0) 0 ≡ b → Ours (cond b (ended ld period (spot k)) (Going (way (spot k) period period)))
-        go true q = rw e (free _ (freeFor s c v) refl)
-        go false q = record { number = k; before = less (ltb k T) refl q; here = refl }
-
-    sample-steps : (x : Side) → Holds x → (isFirst : Bool) (period k : ℕ) → k ≤ T → (p : Place) → p ≡ spot k
-        → Steps (x .channel .loaded) (given isFirst (x .tables) (firstOf c) (x .channel .loaded) period p (x .channel .shown))
-    unfolding given
-    sample-steps x h isFirst period k g p e = rw e (record { ours = onward-ours (x .channel .loaded) period k (h .loaded) g; gave = sum-in x h k g })
-
-    next-spot : (x : Side) → Holds x → (k : ℕ) → k < T → next (x .tables) (firstOf c) (spot k) ≡ spot (k + 1)
-    next-spot x h k g =
-        same-next (x .tables) (firstOf c) s (tableFor s c v) (h .table) (spot k) (placed s (tableFor s c v) k .inner (place-more s (tableFor s c v) k g))
-        ∙ place-step s (tableFor s c v) k g
-
-    first-spot : (x : Side) → Holds x → enter (x .tables) (firstOf c) 0 ≡ spot 0
-    first-spot x h = same-enter (x .tables) (firstOf c) s (tableFor s c v) (h .table) 0 (omega arith) ∙ place-first s (tableFor s c v)
-
-    ramp-steps : (x : Side) → Holds x → (r : Ramp) → Ours r → Steps (x .channel .loaded) (advance (x .tables) (firstOf c) (x .channel .loaded) r (x .channel .shown))
-    unfolding advance
-    ramp-steps x h Still o = record { ours = tt; gave = tt }
-    ramp-steps x h (Going r) o =
-        choose (Steps (x .channel .loaded)) (ltb 1 (r .wait .0)) _ _ (record { ours = o; gave = tt })
-        (sample-steps x h false (r .period .0) (o .number + 1) (omega (arith, o .before)) _
-        (ap (λ (p : Place). next (x .tables) (firstOf c) p) (o .here) ∙ next-spot x h (o .number) (o .before)))
-    ramp-steps x h (Free r) o =
-        choose (Steps (x .channel .loaded)) (ltb 1 (r .wait .0)) _ _ (record { ours = o; gave = tt })
-        (record { ours = o; gave = rw (h .loaded) (and-first (sineFor s c v) _ o) })
-
-    -- ---- a tick's first pass
-
-    record Safe (ch : Channel) (m : Move) : Type 0 where
-      under : Under (side (m .channel) (m .tables))
-      gave : GaveIn (ch .loaded .tone) (m .gave)
-      loaded : m .channel .loaded ≡ ch .loaded
-      signal : m .channel .signal ≡ ch .signal
-
-    -- the ramp moves on, in a phase that it runs in
-    step-safe : (x : Side) → Holds x → (f : Ramp → Phase) → ((r : Ramp) → rampOf (f r) ≡ r) → (m : Moved) → Steps (x .channel .loaded) m
-        → Safe (x .channel) (move (with (x .channel) (f (m .ramp)) (m .shown)) (x .tables) (m .gave))
-    step-safe x h f e m y =
-        record {
-          under = holding (record { loaded = h .loaded; table = h .table }) (rw (e (m .ramp)) (y .ours));
-          gave = y .gave;
-          loaded = refl;
-          signal = refl;
-        }
-
-    start-safe : (z : List ℕ) (x : Side) → Holds x → Safe (x .channel) (start z (x .tables) c (x .channel))
-    unfolding start
-    start-safe z x h =
-        choose (Safe (x .channel)) (eqb (word z (enableAt c)) 1) _ _
-        (step-safe x h phaseOf ramp-phase _ (sample-steps x h true (lasting 1) 0 (omega arith) _ (first-spot x h)))
-        (record { under = holding (record { loaded = h .loaded; table = h .table }) tt; gave = tt; loaded = refl; signal = refl })
-
-    -- no load is reached
-    move-safe : (z : List ℕ) (x : Side) → Under x → (p : Phase) → x .channel .phase ≡ p → loadsAt (toStart p - 1) ≡ false
-        → Safe (x .channel) (moveAt p z (x .tables) c (x .channel))
-    unfolding moveAt countTo advance
-    move-safe z x (holding h o) Rest e l = record { under = holding (record { loaded = h .loaded; table = h .table }) o; gave = tt; loaded = refl; signal = refl }
-    move-safe z x (holding h o) (Counting n older) e l = go (eqb (n .0 - 1) 0)
-      where
-        m : Moved
-        m = advance (x .tables) (firstOf c) (x .channel .loaded) older (x .channel .shown)
-
-        go : (b : Bool) → Safe (x .channel) (cond b (start z (x .tables) c (x .channel))
-            (cond (loadsAt (n .0 - 1)) (quiet (load z (x .tables) c (x .channel) (x .channel .level)))
-            (move (with (x .channel) (Counting (record { 0 = n .0 - 1 }) (m .ramp)) (m .shown)) (x .tables) (m .gave))))
-        go true = start-safe z x h
-        go false = rw l (step-safe x h (Counting (record { 0 = n .0 - 1 })) (λ r. refl) m (ramp-steps x h older (rw e at o)))
-    move-safe z x (holding h o) (Running r) e l = step-safe x h phaseOf ramp-phase _ (ramp-steps x h (Going r) (rw e at o))
-    move-safe z x (holding h o) (FreeRunning r) e l = step-safe x h phaseOf ramp-phase _ (ramp-steps x h (Free r) (rw e at o))
-    move-safe z x (resting d) p e l =
-        let f : p ≡ Rest = sym e ∙ d in
-        rw f (record { under = resting d; gave = tt; loaded = refl; signal = refl })
-    move-safe z x (waiting n d g) p e l =
-        let f : p ≡ Counting n Still = sym e ∙ d in
-        let k : loadsAt (n .0 - 1) ≡ false = rw f at l in
-        let q = eqb-false (n .0 - 1) lead k in
-        rw (f, ne-eqb (n .0 - 1) 0 (λ b. absurd (omega arith)), k)
-        (record { under = waiting (record { 0 = n .0 - 1 }) refl (omega arith); gave = tt; loaded = refl; signal = refl })
-
-    -- ---- the whole tick
-
-    -- what the second pass makes is no part of it
-    sounded-under : (ch : Channel) (l : List ℕ) (g : Signal) → Under (side ch l) → Under (side (withSignal ch g) l)
-    sounded-under ch l g u = kept-under (side ch l) (side (withSignal ch g) l) refl refl (λ i h. refl) u
-
-    module _ (z w : List ℕ) (x : Side) (u : Under x) where
-      safe : loadsAt (toStart (x .channel .phase) - 1) ≡ false → Safe (x .channel) (moveOf z (x .tables) c (x .channel))
-      safe none = move-safe z x u (x .channel .phase) refl none
-
-      tick-under : loadsAt (toStart (x .channel .phase) - 1) ≡ false → Under (tickOf z w (x .tables) c (x .channel))
-      unfolding tickOf
-      tick-under none = sounded-under _ _ _ (safe none .under)
-
-      -- with a load or without
-      tick-told : outBeforeLoad (byTick w z (x .tables) c (x .channel)) ≡ false
-      tick-told = go (loadsAt (toStart (x .channel .phase) - 1)) refl
-        where
-          go : (b : Bool) → loadsAt (toStart (x .channel .phase) - 1) ≡ b → outBeforeLoad (byTick w z (x .tables) c (x .channel)) ≡ false
-          go true q = load-told w z (x .tables) c (x .channel) q
-          go false q = in-told (x .channel .loaded .tone) _ _ (move-tells w z (x .tables) c (x .channel) (x .channel .phase)) (safe q .gave)
-
-      tick-counted : Counted c w (byTick w z (x .tables) c (x .channel)) (x .channel) (tickOf z w (x .tables) c (x .channel) .channel)
-      unfolding tickOf load
-      tick-counted = go (loadsAt (toStart (x .channel .phase) - 1)) refl
-        where
-          go : (b : Bool) → loadsAt (toStart (x .channel .phase) - 1) ≡ b
-              → Counted c w (byTick w z (x .tables) c (x .channel)) (x .channel) (tickOf z w (x .tables) c (x .channel) .channel)
-          go true q = inl (ap (λ (y : Side). y .channel .signal .overflow) (counts-load z w (x .tables) c (x .channel) q))
-          go false q =
-              rw (safe q .loaded, safe q .signal)
-              (made-told c w _ _ (move-tells w z (x .tables) c (x .channel) (x .channel .phase)) (x .channel .loaded .tone) _ (x .channel .signal) _
-              (made-in c w _ (x .channel .loaded .tone) (safe q .gave) _ (x .channel .signal)))
+use Rattle.history.proofs.Gives.{Counted}
+use Rattle.history.proofs.Under.{counts-load, Under, resting, untimed-under, triggered-under, load-under, tick-under, tick-told, tick-counted}
 
 -- ---- the card's channel c
 

@@ -28,5 +28,7 @@ pub mod Countdowns
 pub mod Loads
 pub mod Active
 pub mod Named
+pub mod Gives
+pub mod Under
 pub mod InRange
 pub mod Demand2
