@@ -297,6 +297,8 @@ impl Session {
     /// Lets the load of a level fall on this tick or beside it, by a trigger
     /// before that; the channel is now and then disabled.
     fn load_by_counting(&mut self, base: u16, level: u16, tick: u16) {
+        // The ramp has started by the trigger's tick, and the load comes after it.
+        let tick = tick.max(11);
         let between = self.random.within(10, tick - 1);
         let load = self.random.pick(&[tick, tick, tick, tick + 1]) - between;
         self.set_delay(base, level, 10 + load);
