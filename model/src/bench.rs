@@ -3,6 +3,7 @@
 use std::io::{self, Write};
 
 use crate::card::Card;
+use crate::edition::Edition;
 use crate::line::{self, field, fields, put_transfer};
 use crate::map::Number;
 use crate::panel::{self, Plotted, Reading};
@@ -45,6 +46,8 @@ pub enum Frame {
     },
     /// Whether the bench passes the profile.
     Check,
+    /// A fresh card of this edition.
+    Fresh(Edition),
     Reset,
     Plot {
         channel: usize,
@@ -68,6 +71,7 @@ impl Frame {
             0x12 => Frame::parse_read(fields(rest, 4, &mut [0; 4])?),
             0x15 => Frame::parse_save(fields(rest, 4, &mut [0; 2])?),
             0x16 => rest.is_empty().then_some(Frame::Check),
+            0x17 => Frame::parse_fresh(fields(rest, 2, &mut [0; 1])?),
             0x18 => rest.is_empty().then_some(Frame::Reset),
             0x1B => Frame::parse_plot(fields(rest, 2, &mut [0; 3])?),
             0x1C => Frame::parse_panel(fields(rest, 4, &mut [0; 2])?),
@@ -120,6 +124,15 @@ impl Frame {
         })
     }
 
+    /// There are two editions.
+    fn parse_fresh(fields: &[u16]) -> Option<Frame> {
+        match fields {
+            [1] => Some(Frame::Fresh(Edition::One)),
+            [2] => Some(Frame::Fresh(Edition::Two)),
+            _ => None,
+        }
+    }
+
     fn parse_plot(fields: &[u16]) -> Option<Frame> {
         let &[channel, table, point] = fields else {
             return None;
@@ -164,8 +177,12 @@ impl Frame {
                 put_saved(out, saved, &buffer)
             }
             Frame::Check => put_checked(out, profile::check(card)),
+            Frame::Fresh(edition) => {
+                *card = Card::fresh(edition);
+                out.write_all(b"97\n")
+            }
             Frame::Reset => {
-                *card = Card::reset();
+                card.reset();
                 out.write_all(b"98\n")
             }
             Frame::Plot {
@@ -389,6 +406,37 @@ mod tests {
         assert_eq!(after, answers(looks));
     }
 
+    /// The frames leave a card in use: settings, a ramp, counts, a wave table.
+    #[test]
+    fn a_fresh_card_is_the_card_of_the_start() {
+        let wave = wave("00", "2000", 1024);
+        let used = format!("{wave}\n{}0108610200\n0142020001\n03000A\n", one_point(5));
+        let looks = format!(
+            "0208610001\n020A000002\n020A010001\n0242200002\n0242110001\n15000094BF\n16\n\
+            030014\n{}0142020001\n030014\n",
+            one_point(1)
+        );
+        for fresh in ["1701", "1702"] {
+            let after = answers(&format!("{used}{fresh}\n{looks}"));
+            let (before, after) = after.split_once("97\n").unwrap();
+            assert!(before.ends_with("8301F4000000000000\n"));
+            assert_eq!(after, answers(&looks), "{fresh}");
+        }
+    }
+
+    /// Equal settings give equal checks and equal saved lines in both editions.
+    #[test]
+    fn checks_and_saves_of_both_editions() {
+        let bench = "010080000000033FFF0000\n0108010001\n0108410001\n0108610200\n0108810001\n";
+        for (offset, checked) in [("0001", "9600"), ("0002", "96010001")] {
+            let frames = format!("{bench}0108A1{offset}\n16\n15000094BF\n");
+            let [one, two] = ["1701", "1702"].map(|fresh| answers(&format!("{fresh}\n{frames}")));
+            assert_eq!(one, two);
+            assert_eq!(one.lines().nth(7), Some(checked));
+            assert!(one.lines().nth(8).unwrap().starts_with("9500000094BF"));
+        }
+    }
+
     #[test]
     fn a_reset_forgets_a_pending_trigger() {
         let delays = "0108E10032\n0118E10032\n0128E10032\n0138E10032\n";
@@ -481,7 +529,7 @@ mod tests {
         let short = sum(b"", 38_078);
         assert_eq!(answers("15000094BE"), format!("950A00000000{short:08X}\n"));
         let mut lines = vec![0; 38_079];
-        saved::save(&Card::reset(), &mut lines).unwrap();
+        saved::save(&Card::fresh(Edition::One), &mut lines).unwrap();
         for length in [38_079, 38_080, 65_536] {
             let answer = format!("9500000094BF{:08X}\n", sum(&lines, length));
             assert_eq!(answers(&format!("15{length:08X}")), answer, "{length}");
@@ -521,11 +569,14 @@ mod tests {
             1208600001000155aa 12086000010001 1B0000 1B00000 1B0000000 1B000000000 1b000000 \
             1C080000 1C0800000 1C080000000 1C0800000000 1c08000000 1C08000G00 91 98 9B00 14000A 1400000001 \
             1500 150000 15000094 150000094 15000094B 15000094BF0 15000094BF0000 1500010001 15FFFFFFFF \
-            15000094bf 15000094BG 95 160 16F 1600 160000 16G 1601 9600 96 1700 1701 1900 1A00 90 9000";
+            15000094bf 15000094BG 95 160 16F 1600 160000 16G 1601 9600 96 1900 1A00 90 9000 \
+            17 170 1700 1703 1704 17FF 1710 1720 171 17010 170101 170201 17000001 170001 1701G 17G1 970 97";
         for line in damaged.split_whitespace() {
             assert_eq!(answers(line), "FF\n", "{line}");
         }
         assert_eq!(answers("18\r\n18 \n 18\n1 8\n18"), "FF\nFF\nFF\nFF\n98\n");
         assert_eq!(answers("16\r\n16 \n 16\n1 6\n16"), "FF\nFF\nFF\nFF\n9600\n");
+        let lines = "1702\r\n1702 \n 1702\n17 02\n1702";
+        assert_eq!(answers(lines), "FF\nFF\nFF\nFF\n97\n");
     }
 }

@@ -7,9 +7,10 @@ use std::path::Path;
 
 use crate::card::{Card, CHANNELS, NULL_EVENT};
 use crate::channel::{Ramp, LEVELS};
+use crate::edition::{Edition, Fraction};
 use crate::random::Random;
 use crate::saved;
-use crate::sine::signed;
+use crate::sine::{in_range, signed};
 
 /// Whether a bench passes the profile, or where it breaks it.
 #[derive(Clone, Copy, Debug, PartialEq, Eq)]
@@ -95,7 +96,7 @@ impl Write {
 
 /// The card after the writes.
 fn played(writes: &[Write]) -> Card {
-    let mut card = Card::reset();
+    let mut card = Card::fresh(Edition::One);
     for write in writes {
         card.write(write.start, write.words.len(), &write.words);
     }
@@ -197,8 +198,8 @@ struct Room {
 impl Room {
     fn of(ramp: Ramp) -> Room {
         Room {
-            lowest: -furthest(32_768, |size| ramp.sample(-size, 1).is_some()),
-            highest: furthest(32_767, |size| ramp.sample(size, 1).is_some()),
+            lowest: -furthest(32_768, |size| fits(sum_at(ramp, -size))),
+            highest: furthest(32_767, |size| fits(sum_at(ramp, size))),
         }
     }
 
@@ -224,6 +225,15 @@ impl Room {
         let side = random.pick(&sides);
         Some(random.pick(&side) as u16)
     }
+}
+
+/// The sum at a point, where both editions have the same one.
+fn sum_at(ramp: Ramp, value: i64) -> i64 {
+    ramp.sum(Edition::One, Fraction::whole(value))
+}
+
+fn fits(sum: i64) -> bool {
+    in_range(sum).is_some()
 }
 
 /// The greatest number up to the limit that is good. 0 is, and with each good
@@ -321,12 +331,11 @@ impl Channel {
         let points = &table.points[..=table.end];
         points
             .iter()
-            .map(move |&[value, _]| ramp.sum(signed(value), 1))
+            .map(move |&[value, _]| sum_at(ramp, signed(value)))
     }
 
     fn fits(&self, level: Level) -> bool {
-        self.sums(level)
-            .all(|sum| (-32_768..=32_767).contains(&sum))
+        self.sums(level).all(fits)
     }
 
     /// A new table for a new scale factor and a new offset, or for those that
@@ -413,7 +422,7 @@ impl Channel {
         let highest = 32_768 - self.sums(unmoved).max()?;
         let lowest = -32_769 - self.sums(unmoved).min()?;
         let offset = random.pick(&[highest, lowest]);
-        if self.offsets.len() > 16 || !(-32_768..=32_767).contains(&offset) {
+        if self.offsets.len() > 16 || !fits(offset) {
             return None;
         }
         self.offsets.push(offset as u16);
@@ -538,7 +547,7 @@ mod tests {
         let lines = bench(seed, index);
         let answers = program::answers(Program::Rampcard, &lines);
         assert!(answers.lines().all(|answer| answer.starts_with("8100")));
-        let mut card = Card::reset();
+        let mut card = Card::fresh(Edition::One);
         for line in lines.split(|&byte| byte == b'\n') {
             let mut answer = Vec::new();
             Program::Rampcard

@@ -1,6 +1,7 @@
 //! The four-channel ramp card, stepped plainly one microsecond at a time.
 
 use crate::channel::{Active, Channel, Look, Ramp, Trigger, LEVELS, TABLE_WORDS};
+use crate::edition::Edition;
 use crate::map::{Access, Answer, Number, Place, Region};
 use crate::sine::Wave;
 
@@ -15,6 +16,7 @@ pub const NULL_EVENT: u8 = 0xFE;
 /// The whole card.
 #[derive(Clone, Debug)]
 pub struct Card {
+    edition: Edition,
     channels: [Channel; CHANNELS],
     slots: [u8; SLOTS],
     clock_enable: u16,
@@ -23,9 +25,10 @@ pub struct Card {
 }
 
 impl Card {
-    /// A card after a reset.
-    pub fn reset() -> Self {
+    /// A fresh card of an edition.
+    pub fn fresh(edition: Edition) -> Self {
         Card {
+            edition,
             channels: std::array::from_fn(|_| Channel::new()),
             slots: [NULL_EVENT; SLOTS],
             clock_enable: 0,
@@ -38,6 +41,15 @@ impl Card {
             },
             level_counts: [0; LEVELS],
         }
+    }
+
+    /// A reset: all is as on a fresh card of the edition, which survives it.
+    pub fn reset(&mut self) {
+        *self = Card::fresh(self.edition);
+    }
+
+    pub fn edition(&self) -> Edition {
+        self.edition
     }
 
     /// The four outputs.
@@ -81,7 +93,7 @@ impl Card {
     #[inline(always)]
     pub fn tick(&mut self) {
         for channel in &mut self.channels {
-            channel.tick(&mut self.active);
+            channel.tick(self.edition, &mut self.active);
         }
     }
 
@@ -246,3 +258,7 @@ mod tests;
 #[cfg(test)]
 #[path = "sine_tests.rs"]
 mod sine_tests;
+
+#[cfg(test)]
+#[path = "editions_tests.rs"]
+mod editions_tests;

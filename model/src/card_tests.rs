@@ -5,9 +5,13 @@ use super::*;
 use crate::channel::Phase;
 use crate::map::{CARD_ROWS, CHANNEL_ROWS};
 
-/// A card whose channel 0 runs table 1 at level 1 with entries 1, enabled.
 pub(super) fn bench() -> Card {
-    let mut card = Card::reset();
+    bench_on(Edition::One)
+}
+
+/// A card whose channel 0 runs table 1 at level 1 with entries 1, enabled.
+pub(super) fn bench_on(edition: Edition) -> Card {
+    let mut card = Card::fresh(edition);
     for (address, value) in [(0x0801, 1), (0x0841, 1), (0x0881, 1), (0x0A00, 1)] {
         set(&mut card, address, value);
     }
@@ -67,16 +71,30 @@ pub(super) fn shown(card: &Card) -> (u16, u16) {
     (get(card, 0x0A33), get(card, 0x0A34))
 }
 
-/// The outputs on ticks 10, 20, ... after a trigger, until the ramp rests.
+/// The samples of a ramp on a card of edition 1.
 fn samples(points: &[(i16, u16)], scale: u16, offset: i16) -> Vec<i16> {
-    let mut card = bench();
+    samples_on(Edition::One, points, scale, offset)
+}
+
+pub(super) fn samples_on(
+    edition: Edition,
+    points: &[(i16, u16)],
+    scale: u16,
+    offset: i16,
+) -> Vec<i16> {
+    let mut card = bench_on(edition);
     set_table(&mut card, points);
     set_sum(&mut card, scale, offset);
-    manual(&mut card, 1);
+    samples_of(&mut card)
+}
+
+/// The outputs on ticks 10, 20, ... after a trigger, until the ramp rests.
+pub(super) fn samples_of(card: &mut Card) -> Vec<i16> {
+    manual(card, 1);
     let mut given = Vec::new();
     loop {
-        ticks(&mut card, 10);
-        given.push(output(&card));
+        ticks(card, 10);
+        given.push(output(card));
         if !card.channels[0].runs() {
             return given;
         }
@@ -152,7 +170,7 @@ fn checked_delay_11_loads_on_tick_1() {
 
 #[test]
 fn checked_transfers() {
-    let mut card = Card::reset();
+    let mut card = Card::fresh(Edition::One);
     let stopped = write(&mut card, 0x07FE, &[1, 0, 1, 1]);
     assert_eq!(stopped, (Number::Beyond, 2));
     assert_eq!((get(&card, 0x07FE), get(&card, 0x07FF)), (1, 0));
@@ -166,7 +184,7 @@ fn checked_transfers() {
 
 #[test]
 fn addresses_the_paper_names() {
-    let mut card = Card::reset();
+    let mut card = Card::fresh(Edition::One);
     set(&mut card, 0x228F, 6);
     assert_eq!(card.channels[2].tables[128 * 5 + 2 * 7 + 1], 6);
     set(&mut card, 0x401A, 0x33);
@@ -176,7 +194,7 @@ fn addresses_the_paper_names() {
 
 #[test]
 fn after_a_reset() {
-    let card = Card::reset();
+    let card = Card::fresh(Edition::One);
     for base in [0x0000, 0x1000, 0x2000, 0x3000] {
         let mut words = [1; 32];
         card.read(base + 0x860, 32, &mut words);
@@ -237,7 +255,7 @@ fn each_number_once() {
 
 #[test]
 fn bad_counts() {
-    let mut card = Card::reset();
+    let mut card = Card::fresh(Edition::One);
     let mut many = vec![1; 20_000];
     for count in [0, 16_382, 20_000, 20_001] {
         let answer = Answer::new(Number::BadCount, 0);
@@ -277,7 +295,7 @@ fn the_order_of_the_numbers() {
 
 #[test]
 fn a_transfer_stops_at_the_first_word_refused_and_keeps_the_rest() {
-    let mut card = Card::reset();
+    let mut card = Card::fresh(Edition::One);
     let mut words = [0xAAAA; 4];
     let answer = card.read(0x081E, 4, &mut words);
     assert_eq!(answer, Answer::new(Number::Beyond, 2));
@@ -293,7 +311,7 @@ fn a_transfer_stops_at_the_first_word_refused_and_keeps_the_rest() {
 
 #[test]
 fn accepted_values() {
-    let mut card = Card::reset();
+    let mut card = Card::fresh(Edition::One);
     let bounds = [
         (0x0800, 15),
         (0x0840, 31),
@@ -329,7 +347,7 @@ fn accepted_values() {
 
 #[test]
 fn events_and_slots() {
-    let mut card = Card::reset();
+    let mut card = Card::fresh(Edition::One);
     // One level may hold an event twice; emptying one leaves the other.
     assert_eq!(write(&mut card, 0x4008, &[0x10, 0x10]), (Number::Done, 2));
     set(&mut card, 0x4008, 0xFE);
@@ -591,7 +609,7 @@ fn the_older_ramp_may_rest_during_the_countdown() {
 
 #[test]
 fn channels_keep_to_themselves() {
-    let mut card = Card::reset();
+    let mut card = Card::fresh(Edition::One);
     for base in [0x0000, 0x1000, 0x2000, 0x3000] {
         let mine = base >> 12;
         set(&mut card, base + 0x801, 15);

@@ -2,6 +2,7 @@
 
 use std::slice;
 
+use crate::edition::{Edition, Fraction};
 use crate::map::Region;
 use crate::sine::{in_range, signed, Mode, Sine, Wave};
 
@@ -86,15 +87,15 @@ pub struct Ramp {
 }
 
 impl Ramp {
-    /// floor(S·f/256) + offset with f = top/bottom.
-    pub fn sum(self, top: i64, bottom: i64) -> i64 {
-        // The divisor is positive, so the Euclidean quotient is the floor.
-        (signed(self.scale) * top).div_euclid(256 * bottom) + signed(self.offset)
+    /// The sum before its range is checked: S·f/256 as the edition cuts it,
+    /// and the offset.
+    pub fn sum(self, edition: Edition, f: Fraction) -> i64 {
+        edition.scaled(self.scale, f) + signed(self.offset)
     }
 
     /// The sum as a word, or None on overflow; only the last sum is checked.
-    pub fn sample(self, top: i64, bottom: i64) -> Option<u16> {
-        in_range(self.sum(top, bottom))
+    pub fn sample(self, edition: Edition, f: Fraction) -> Option<u16> {
+        in_range(self.sum(edition, f))
     }
 }
 
@@ -117,17 +118,18 @@ impl Loaded {
         self.points[2 * usize::from(point) + 1]
     }
 
-    /// The sample of segment n with m samples left, or None on overflow.
-    /// With m = 0 the ramp is at its end and f is that point's V.
-    fn sample(&self, n: u16, m: u16) -> Option<u16> {
-        let (top, bottom) = if m == 0 {
-            (self.value(n), 1)
-        } else {
-            let (from, to) = (self.value(n), self.value(n + 1));
-            let steps = i64::from(self.time_step(n));
-            (to * steps - (to - from) * i64::from(m), steps)
-        };
-        self.ramp.sample(top, bottom)
+    /// The f of segment n with m samples left. With m = 0 the ramp is at its
+    /// end and f is that point's V.
+    fn f(&self, n: u16, m: u16) -> Fraction {
+        if m == 0 {
+            return Fraction::whole(self.value(n));
+        }
+        let (from, to) = (self.value(n), self.value(n + 1));
+        let steps = i64::from(self.time_step(n));
+        Fraction {
+            top: to * steps - (to - from) * i64::from(m),
+            bottom: steps,
+        }
     }
 }
 
@@ -136,6 +138,8 @@ impl Loaded {
 pub struct Given {
     /// Whether it is a free run's; else it is a ramp's.
     pub free: bool,
+    /// The ramp's f; a free run has none.
+    pub f: Option<Fraction>,
     /// Whether the ramp's sum was out of range.
     pub sum_overflowed: bool,
     /// What the output was made of in sine mode.
@@ -286,9 +290,9 @@ impl Channel {
         self.samples_left = 0;
     }
 
-    /// One microsecond.
+    /// One microsecond on a card of the edition.
     #[inline(always)]
-    pub fn tick(&mut self, active: &mut Active) {
+    pub fn tick(&mut self, edition: Edition, active: &mut Active) {
         self.given = None;
         match self.phase {
             Phase::Rest => {}
@@ -296,24 +300,31 @@ impl Channel {
                 countdown,
                 level,
                 older,
-            } => self.count(countdown - 1, level, older, active),
+            } => self.count(countdown - 1, level, older, edition, active),
             Phase::Running(run) => {
-                self.phase = self.run(run).map_or(Phase::Rest, Phase::Running);
+                self.phase = self.run(run, edition).map_or(Phase::Rest, Phase::Running);
             }
         }
     }
 
     /// The countdown has come to this number on this tick.
     #[inline]
-    fn count(&mut self, countdown: u16, level: u8, older: Option<Run>, active: &mut Active) {
+    fn count(
+        &mut self,
+        countdown: u16,
+        level: u8,
+        older: Option<Run>,
+        edition: Edition,
+        active: &mut Active,
+    ) {
         let older = match countdown {
-            0 => return self.start(),
+            0 => return self.start(edition),
             // The load comes before the tick's sample: the old ramp gives none.
             LOAD_AT => {
                 self.load(level, active);
                 None
             }
-            _ => older.and_then(|run| self.run(run)),
+            _ => older.and_then(|run| self.run(run, edition)),
         };
         self.phase = Phase::Counting {
             countdown,
@@ -324,10 +335,10 @@ impl Channel {
 
     /// At countdown 0 the ramp starts if A00 is 1; otherwise nothing starts.
     /// "A 16-bit counter starts at the phase on sample 0."
-    fn start(&mut self) {
+    fn start(&mut self, edition: Edition) {
         let run = if self.enable == 1 {
             self.counter = self.loaded.phase;
-            self.reach(0)
+            self.reach(0, edition)
         } else {
             None
         };
@@ -337,7 +348,7 @@ impl Channel {
     /// One tick of a ramp or a free run; None when the channel rests after it.
     /// The counter "grows by the frequency each later sample".
     #[inline]
-    fn run(&mut self, run: Run) -> Option<Run> {
+    fn run(&mut self, run: Run, edition: Edition) -> Option<Run> {
         if run.wait > 1 {
             return Some(Run {
                 wait: run.wait - 1,
@@ -350,38 +361,40 @@ impl Channel {
             Some(Run::from_sample(true))
         } else if self.samples_left > 1 {
             self.samples_left -= 1;
-            self.give_sample();
+            self.give_sample(edition);
             Some(Run::from_sample(false))
         } else {
-            self.reach(self.segment + 1)
+            self.reach(self.segment + 1, edition)
         }
     }
 
     /// The ramp comes to a point and gives its sample. It ends at a point with
     /// time step 0, and at point 63 whatever its step: then it free-runs, or
     /// None when it rests.
-    fn reach(&mut self, point: u16) -> Option<Run> {
+    fn reach(&mut self, point: u16, edition: Edition) -> Option<Run> {
         self.segment = point;
         self.samples_left = if point == LAST_POINT {
             0
         } else {
             self.loaded.time_step(point)
         };
-        self.give_sample();
+        self.give_sample(edition);
         let ends = self.samples_left == 0;
         (!ends || self.loaded.mode.is_free_run()).then_some(Run::from_sample(ends))
     }
 
     /// A ramp's sample. "An amplitude overflow keeps the previous amplitude",
     /// and in sine mode the sine goes on with it.
-    fn give_sample(&mut self) {
-        let sum = self.loaded.sample(self.segment, self.samples_left);
+    fn give_sample(&mut self, edition: Edition) {
+        let f = self.loaded.f(self.segment, self.samples_left);
+        let sum = self.loaded.ramp.sample(edition, f);
         if let Some(word) = sum {
             self.amplitude = word;
         }
         let sine = self.loaded.mode.is_sine().then(|| self.sine());
         let given = Given {
             free: false,
+            f: Some(f),
             sum_overflowed: sum.is_none(),
             sine,
         };
@@ -393,6 +406,7 @@ impl Channel {
         let sine = self.sine();
         let given = Given {
             free: true,
+            f: None,
             sum_overflowed: false,
             sine: Some(sine),
         };

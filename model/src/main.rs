@@ -4,6 +4,7 @@ mod bench;
 mod benches;
 mod card;
 mod channel;
+mod edition;
 mod line;
 mod map;
 mod panel;

@@ -71,6 +71,7 @@ pub fn plotted(card: &Card, channel: usize, table: usize, point: usize) -> Optio
 #[cfg(test)]
 mod tests {
     use super::*;
+    use crate::edition::Edition;
 
     /// The kind of what an address shows, by its first letter.
     fn kind(address: u16) -> char {
@@ -79,7 +80,7 @@ mod tests {
     }
 
     fn card_with(start: u16, words: &[u16]) -> Card {
-        let mut card = Card::reset();
+        let mut card = Card::fresh(Edition::One);
         assert_eq!(card.write(start, words.len(), words).processed, words.len());
         card
     }

@@ -2,6 +2,7 @@
 
 use crate::card::{Card, CHANNELS};
 use crate::channel::{Ramp, LEVELS};
+use crate::edition::{Edition, Fraction};
 use crate::sine::signed;
 
 /// The first place that breaks the profile: the first channel, in it the first
@@ -22,7 +23,7 @@ pub fn check(card: &Card) -> Option<Break> {
         for level in 0..LEVELS {
             let ramp = card.ramp(channel, level);
             let table = card.table_of(channel, ramp);
-            if let Some(point) = first_out_of_range(ramp, table) {
+            if let Some(point) = first_out_of_range(card.edition(), ramp, table) {
                 return Some(Break {
                     channel,
                     level,
@@ -36,10 +37,12 @@ pub fn check(card: &Card) -> Option<Break> {
 }
 
 /// The first point of a ramp whose sum is out of range. From point to point
-/// the sums go one way, so the samples between two points in range are too.
-fn first_out_of_range(ramp: Ramp, table: &[u16]) -> Option<usize> {
+/// the sums go one way, so the samples between two points in range are too; the
+/// second edition's cut of f does not leave the points' own values either.
+fn first_out_of_range(edition: Edition, ramp: Ramp, table: &[u16]) -> Option<usize> {
     for (point, words) in table.chunks_exact(2).enumerate() {
-        if ramp.sample(signed(words[0]), 1).is_none() {
+        let f = Fraction::whole(signed(words[0]));
+        if ramp.sample(edition, f).is_none() {
             return Some(point);
         }
         // "Points beyond the ramp's end do not count."

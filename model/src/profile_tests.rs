@@ -23,17 +23,26 @@ fn put_ramp(card: &mut Card, channel: u16, scale: u16, offset: u16, table: &[u16
 }
 
 /// The point at which such a ramp breaks the profile.
-fn breaks(scale: u16, offset: u16, table: &[u16]) -> Option<usize> {
-    let mut card = Card::reset();
+fn breaks_on(edition: Edition, scale: u16, offset: u16, table: &[u16]) -> Option<usize> {
+    let mut card = Card::fresh(edition);
     put_ramp(&mut card, 2, scale, offset, table);
     let broken = check(&card)?;
     assert_eq!((broken.channel, broken.level, broken.table), (2, 4, 7));
     Some(broken.point)
 }
 
+/// The same in both editions.
+fn breaks(scale: u16, offset: u16, table: &[u16]) -> Option<usize> {
+    let [one, two] = Edition::BOTH.map(|edition| breaks_on(edition, scale, offset, table));
+    assert_eq!(one, two, "{scale:04X} {offset:04X}");
+    one
+}
+
 #[test]
 fn a_reset_bench_passes() {
-    assert_eq!(check(&Card::reset()), None);
+    for edition in Edition::BOTH {
+        assert_eq!(check(&Card::fresh(edition)), None);
+    }
 }
 
 #[test]
@@ -86,7 +95,7 @@ fn point_63_ends_a_ramp_whatever_its_step() {
 
 #[test]
 fn the_first_channel_then_the_first_level() {
-    let mut card = Card::reset();
+    let mut card = Card::fresh(Edition::One);
     for (channel, level, expected) in [
         (3, 0, (3, 0)),
         (1, 31, (1, 31)),
@@ -109,7 +118,7 @@ fn the_first_channel_then_the_first_level() {
 /// Neither enables nor triggers, modes or wave tables make a difference.
 #[test]
 fn the_settings_alone_decide() {
-    let mut card = Card::reset();
+    let mut card = Card::fresh(Edition::One);
     put_ramp(&mut card, 1, 0x0200, 0, &[0, 1, 0x4000, 0]);
     let broken = check(&card);
     assert!(broken.is_some());
@@ -136,7 +145,7 @@ fn the_settings_alone_decide() {
 /// Table 0 is fixed at 0, so it has the offset as its only sum.
 #[test]
 fn levels_without_a_table_of_their_own_pass() {
-    let mut card = Card::reset();
+    let mut card = Card::fresh(Edition::One);
     for base in [0x0000, 0x1000, 0x2000, 0x3000] {
         set(&mut card, base + 0x840, &[1; 32]);
         set(&mut card, base + 0x880, &[1; 32]);
@@ -148,7 +157,7 @@ fn levels_without_a_table_of_their_own_pass() {
 
 #[test]
 fn verdicts_in_words() {
-    let mut card = Card::reset();
+    let mut card = Card::fresh(Edition::One);
     let passes = "the bench passes: every sum of every ramp is in range\n";
     assert_eq!(verdict(&card), passes.as_bytes());
     let mut table = [0, 1].repeat(20);
@@ -161,20 +170,19 @@ fn verdicts_in_words() {
 
 /// The request's words over samples: whether every sample of a ramp has a sum
 /// in range, f being an exact fraction with the divisor `steps`.
-fn passes_by_samples(ramp: Ramp, table: &[u16]) -> bool {
+fn passes_by_samples(edition: Edition, ramp: Ramp, table: &[u16]) -> bool {
     let value = |point: usize| signed(table[2 * point]);
     let mut point = 0;
     loop {
-        let steps = i64::from(table[2 * point + 1]);
-        if point == 63 || steps == 0 {
-            return ramp.sample(value(point), 1).is_some();
+        let bottom = i64::from(table[2 * point + 1]);
+        if point == 63 || bottom == 0 {
+            let f = Fraction::whole(value(point));
+            return ramp.sample(edition, f).is_some();
         }
         let rise = value(point + 1) - value(point);
-        for left in (1..=steps).rev() {
-            if ramp
-                .sample(value(point + 1) * steps - rise * left, steps)
-                .is_none()
-            {
+        for left in (1..=bottom).rev() {
+            let top = value(point + 1) * bottom - rise * left;
+            if ramp.sample(edition, Fraction { top, bottom }).is_none() {
                 return false;
             }
         }
@@ -187,7 +195,7 @@ fn check_by_samples(card: &Card) -> Option<(usize, usize)> {
     let places = (0..CHANNELS).flat_map(|channel| (0..LEVELS).map(move |level| (channel, level)));
     places.into_iter().find(|&(channel, level)| {
         let ramp = card.ramp(channel, level);
-        !passes_by_samples(ramp, card.table_of(channel, ramp))
+        !passes_by_samples(card.edition(), ramp, card.table_of(channel, ramp))
     })
 }
 
@@ -219,8 +227,8 @@ fn check_by_playing(card: &Card) -> Option<(usize, usize)> {
 }
 
 /// A small bench with short steps, every channel enabled and without delays.
-fn small_bench(random: &mut Random, kind: Kind) -> Card {
-    let mut card = Card::reset();
+fn small_bench(edition: Edition, random: &mut Random, kind: Kind) -> Card {
+    let mut card = Card::fresh(edition);
     for mut write in benches::channels(random, kind, &SMALL) {
         if matches!(write.start & 0x0FFF, 0x080..=0x7FF) {
             for step in write.words.iter_mut().skip(1).step_by(2) {
@@ -236,19 +244,23 @@ fn small_bench(random: &mut Random, kind: Kind) -> Card {
     card
 }
 
-/// The points decide as the samples do, and as the card itself plays them.
+/// The points decide as the samples do, and as the card itself plays them; in
+/// both editions they decide the same.
 #[test]
 fn points_and_samples_and_the_card_agree() {
     for index in 0..150 {
-        let mut random = Random::of(5, index);
         let kind = Kind::ALL[(index % 3) as usize];
-        let card = small_bench(&mut random, kind);
-        let by_points = check(&card).map(|broken| (broken.channel, broken.level));
-        assert_eq!(by_points.is_none(), kind == Kind::Passes, "{index}");
-        assert_eq!(check_by_samples(&card), by_points, "{index}");
-        if index % 3 == 0 || index % 5 == 0 {
-            assert_eq!(check_by_playing(&card), by_points, "{index}");
-        }
+        let verdicts = Edition::BOTH.map(|edition| {
+            let card = small_bench(edition, &mut Random::of(5, index), kind);
+            let by_points = check(&card).map(|broken| (broken.channel, broken.level));
+            assert_eq!(by_points.is_none(), kind == Kind::Passes, "{index}");
+            assert_eq!(check_by_samples(&card), by_points, "{index} {edition:?}");
+            if index % 3 == 0 || index % 5 == 0 {
+                assert_eq!(check_by_playing(&card), by_points, "{index} {edition:?}");
+            }
+            by_points
+        });
+        assert_eq!(verdicts[0], verdicts[1], "{index}");
     }
 }
 
@@ -270,13 +282,12 @@ fn points_and_samples_agree_on_any_table() {
             scale: random.pick(&[any, 0x0100, 0x0101, 0xFEFF, 0x00C0]),
             offset: random.word() & size,
         };
-        let by_points = first_out_of_range(ramp, &table);
-        assert_eq!(
-            by_points.is_none(),
-            passes_by_samples(ramp, &table),
-            "{index}"
-        );
-        broken += u32::from(by_points.is_some());
+        for edition in Edition::BOTH {
+            let by_points = first_out_of_range(edition, ramp, &table);
+            let by_samples = passes_by_samples(edition, ramp, &table);
+            assert_eq!(by_points.is_none(), by_samples, "{index} {edition:?}");
+            broken += u32::from(by_points.is_some());
+        }
     }
-    assert!((5_000..15_000).contains(&broken), "{broken}");
+    assert!((10_000..30_000).contains(&broken), "{broken}");
 }

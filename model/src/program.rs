@@ -4,6 +4,7 @@ use std::io::{self, Write};
 
 use crate::bench::{self, Frame};
 use crate::card::Card;
+use crate::edition::Edition;
 use crate::line;
 
 /// The programs by their names.
@@ -59,11 +60,11 @@ pub struct Lines {
 }
 
 impl Lines {
-    /// No line yet, on a reset card.
+    /// No line yet, on a fresh card of edition 1.
     pub fn new(program: Program) -> Self {
         Lines {
             program,
-            card: Card::reset(),
+            card: Card::fresh(Edition::One),
             begun: Vec::with_capacity(program.longest() + 1),
         }
     }
@@ -105,7 +106,7 @@ impl Lines {
     }
 }
 
-/// All answers of the program to an input on a reset card.
+/// All answers of the program to an input on its fresh card.
 #[cfg(test)]
 pub fn answers(program: Program, input: &[u8]) -> String {
     tests::answers_in(program, input, 65_536)
@@ -214,6 +215,8 @@ mod tests {
             "120860000100015555",
             "1500000000",
             "16",
+            "1701",
+            "1702",
             "18",
             "1B000000",
             "1C0A047FFF",

@@ -9,6 +9,7 @@ use std::fmt;
 use crate::bench::Frame;
 use crate::card::{Card, CHANNELS, NULL_EVENT};
 use crate::channel::{Look, Trigger, LOAD_AT};
+use crate::edition::Edition;
 use crate::line;
 use crate::program::Program;
 use crate::saved;
@@ -95,7 +96,7 @@ const LONG: u32 = 10;
 /// The things that a program's sessions can reach, in the order of printing.
 fn things(program: Program) -> Vec<String> {
     let bench = program == Program::Bench;
-    let more: &[u8] = &[0x10, 0x11, 0x12, 0x15, 0x16, 0x18, 0x1B, 0x1C];
+    let more: &[u8] = &[0x10, 0x11, 0x12, 0x15, 0x16, 0x17, 0x18, 0x1B, 0x1C];
     let mut things: Vec<String> = [0x01, 0x02, 0x03, 0x04]
         .iter()
         .chain(if bench { more } else { &[] })
@@ -190,7 +191,7 @@ impl<'a> Player<'a> {
     fn new(reach: &'a mut Reach) -> Self {
         Player {
             reach,
-            card: Card::reset(),
+            card: Card::fresh(Edition::One),
             waited: [0; CHANNELS],
             handed_in: [false; CHANNELS],
             origin: [Origin::Reset; CHANNELS],
@@ -393,7 +394,7 @@ impl<'a> Player<'a> {
     fn saved(&mut self, number: u8, length: usize) {
         let lines = saved::length();
         let done = number == 0;
-        let other = done && saved::lines(&self.card) != saved::lines(&Card::reset());
+        let other = done && saved::lines(&self.card) != saved::lines(&Card::fresh(Edition::One));
         self.count(SAVED, done);
         self.count(SAVED_EXACT, done && length == lines);
         self.count(SAVED_LONGER, done && length > lines);

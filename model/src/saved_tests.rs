@@ -1,6 +1,7 @@
 //! The saved lines: their form, what changes them and what does not.
 
 use super::*;
+use crate::edition::Edition;
 use crate::line::field;
 use crate::map::Place;
 use crate::program::{self, Program};
@@ -12,7 +13,7 @@ fn text(card: &Card) -> String {
 
 /// The card that the line program has after an input.
 fn played(input: &[u8]) -> Card {
-    let mut card = Card::reset();
+    let mut card = Card::fresh(Edition::One);
     for line in input.split(|&byte| byte == b'\n') {
         let mut answer = Vec::new();
         Program::Rampcard
@@ -80,7 +81,7 @@ fn another(address: u16) -> u16 {
 #[test]
 fn lines_and_bytes() {
     assert_eq!((parts().count(), length()), (173, 38_079));
-    let text = text(&Card::reset());
+    let text = text(&Card::fresh(Edition::One));
     assert_eq!(text.lines().count(), 173);
     assert!(text.ends_with("\n0142000000\n"));
     let addresses = addresses();
@@ -92,7 +93,7 @@ fn lines_and_bytes() {
 /// once, in address order.
 #[test]
 fn every_setting_once_in_address_order() {
-    let text = text(&Card::reset());
+    let text = text(&Card::fresh(Edition::One));
     let mut named = Vec::new();
     for line in text.lines() {
         assert!(line.starts_with("01") && line.len() % 4 == 2);
@@ -106,7 +107,7 @@ fn every_setting_once_in_address_order() {
 
 #[test]
 fn the_lines_of_a_reset_card() {
-    let text = text(&Card::reset());
+    let text = text(&Card::fresh(Edition::One));
     let lines: Vec<&str> = text.lines().collect();
     let of = |start: &str, word: &str, words| format!("01{start}{}", word.repeat(words));
     assert_eq!(lines[0], of("0080", "0000", 64));
@@ -126,7 +127,7 @@ fn the_lines_of_a_reset_card() {
 
 #[test]
 fn a00_comes_before_a01_each_in_a_line_of_its_own() {
-    let mut card = Card::reset();
+    let mut card = Card::fresh(Edition::One);
     for base in [0x0000, 0x1000, 0x2000, 0x3000] {
         set(&mut card, base + 0xA00, 1);
         set(&mut card, base + 0xA01, 5);
@@ -140,7 +141,7 @@ fn a00_comes_before_a01_each_in_a_line_of_its_own() {
 
 #[test]
 fn refused_exactly_if_the_buffer_is_too_short() {
-    let card = Card::reset();
+    let card = Card::fresh(Edition::One);
     for length in [0, 1, 266, 38_078] {
         let mut buffer = vec![0x55; length];
         assert_eq!(save(&card, &mut buffer), Err(Number::ShortBuffer));
@@ -174,9 +175,9 @@ fn check_round_trip(card: &Card) {
 #[test]
 fn round_trips_at_both_ends_of_every_region() {
     assert_eq!(ends().len(), 4 * (11 * 2 + 2) + 3);
-    let mut all = Card::reset();
+    let mut all = Card::fresh(Edition::One);
     for address in ends() {
-        let mut card = Card::reset();
+        let mut card = Card::fresh(Edition::One);
         set(&mut card, address, another(address));
         check_round_trip(&card);
         // One level may hold an event, so the last slot has another one.
@@ -194,7 +195,7 @@ fn round_trips_at_both_ends_of_every_region() {
 /// the last levels, and a ramp that runs.
 #[test]
 fn a_round_trip_of_a_full_bench() {
-    let mut card = Card::reset();
+    let mut card = Card::fresh(Edition::One);
     for (n, address) in (0_u16..).zip(addresses()) {
         let value = match Place::find(address).unwrap().region {
             Region::RampMap => n % 16,
@@ -218,10 +219,10 @@ fn a_round_trip_of_a_full_bench() {
 /// alone, and no two words have the same digits.
 #[test]
 fn every_setting_has_its_own_place_in_the_lines() {
-    let reset = lines(&Card::reset());
+    let reset = lines(&Card::fresh(Edition::One));
     let mut end = 0;
     for address in addresses() {
-        let mut card = Card::reset();
+        let mut card = Card::fresh(Edition::One);
         set(&mut card, address, another(address));
         let saved = lines(&card);
         let differing: Vec<usize> = (0..saved.len())
@@ -272,7 +273,7 @@ fn outputs_counts_and_triggers_change_no_line() {
 /// "Wave tables aren't saved."
 #[test]
 fn wave_tables_change_no_line() {
-    let mut card = Card::reset();
+    let mut card = Card::fresh(Edition::One);
     let saved = lines(&card);
     assert_eq!(card.wave_table(2, &[0x4000; WAVE_WORDS]), Number::Done);
     assert_eq!(lines(&card), saved);

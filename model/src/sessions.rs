@@ -1049,6 +1049,7 @@ impl Session {
 mod tests {
     use super::*;
     use crate::card::Card;
+    use crate::edition::Edition;
     use crate::line::field;
     use crate::program::{self, Lines};
     use crate::reach::Reach;
@@ -1082,7 +1083,7 @@ mod tests {
     /// How many sessions leave other settings than a reset card's: in all, and
     /// in each kind of region.
     fn changed(sessions: u64) -> (u64, [u64; SETTINGS.len()]) {
-        let reset = saved::lines(&Card::reset());
+        let reset = saved::lines(&Card::fresh(Edition::One));
         let (mut all, mut kinds) = (0, [0; SETTINGS.len()]);
         for index in 0..sessions {
             let lines = saved::lines(&played(&session(Program::Rampcard, 4, index)));
@@ -1147,7 +1148,7 @@ mod tests {
                 continue;
             }
             longer += 1;
-            let mut card = Card::reset();
+            let mut card = Card::fresh(Edition::One);
             let mut outputs = BTreeSet::new();
             let mut counted = false;
             for line in lines {

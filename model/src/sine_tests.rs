@@ -70,7 +70,7 @@ const SAW: [(i16, u16); 3] = [(0, 4), (400, 2), (100, 0)];
 
 #[test]
 fn a01_accepts_0_1_4_and_5() {
-    let mut card = Card::reset();
+    let mut card = Card::fresh(Edition::One);
     for base in [0x0000, 0x1000, 0x2000, 0x3000] {
         for mode in 0..=300 {
             let accepted = [0, 1, 4, 5].contains(&mode);
@@ -96,7 +96,7 @@ fn a01_accepts_0_1_4_and_5() {
 
 #[test]
 fn the_new_regions_are_four() {
-    let mut card = Card::reset();
+    let mut card = Card::fresh(Edition::One);
     for (last, words) in [(0x91F, [1, 2]), (0x93F, [3, 4]), (0x95F, [5, 6])] {
         let stopped = write(&mut card, 0x2000 + last, &words);
         assert_eq!(stopped, (Number::Beyond, 1));
@@ -475,7 +475,7 @@ fn a_wave_table_is_refused_with_9_before_8() {
     bad[1023] = 0x4001;
     let mut low = full;
     low[0] = 0xBFFF;
-    for mut card in [Card::reset(), free_running()] {
+    for mut card in [Card::fresh(Edition::One), free_running()] {
         let before = format!("{card:?}");
         for channel in [4, 5, 255, usize::MAX] {
             assert_eq!(card.wave_table(channel, &full), Number::BadWave);
@@ -532,7 +532,7 @@ fn a_wave_table_handed_in_before_the_start_serves_that_ramp() {
 
 #[test]
 fn channels_keep_their_own_waves() {
-    let mut card = Card::reset();
+    let mut card = Card::fresh(Edition::One);
     for (channel, base) in [0x0000, 0x1000, 0x2000, 0x3000].into_iter().enumerate() {
         for (address, value) in [(0x801, 1), (0x080, 1600), (0xA00, 1), (0xA01, SINE)] {
             set(&mut card, base + address, value);
@@ -560,7 +560,7 @@ fn without_a_wave_table_the_sine_is_0() {
 
 #[test]
 fn the_amplitude_is_0_after_a_reset() {
-    let mut card = Card::reset();
+    let mut card = Card::fresh(Edition::One);
     set_table(&mut card, &[(20_000, 0)]);
     for (address, value) in [(0x0801, 1), (0x0841, 1), (0x0861, 0x0200), (0x0A00, 1)] {
         set(&mut card, address, value);

@@ -3,6 +3,7 @@
 use super::Player;
 use crate::card::{Card, CHANNELS};
 use crate::channel::{Look, Ramp, LEVELS};
+use crate::edition::{Edition, Fraction};
 use crate::profile::{self, Break};
 use crate::saved;
 use crate::sine::{signed, Mode};
@@ -69,7 +70,8 @@ impl Sums {
         let ramp: Ramp = card.ramp(channel, level);
         let table = card.table_of(channel, ramp);
         let end = table.chunks_exact(2).position(|point| point[1] == 0);
-        let sum = |point: &[u16]| ramp.sum(signed(point[0]), 1);
+        let f = |point: &[u16]| Fraction::whole(signed(point[0]));
+        let sum = |point: &[u16]| ramp.sum(card.edition(), f(point));
         let mut own: Vec<i64> = table.chunks_exact(2).map(sum).collect();
         let past = own.split_off(end.unwrap_or(63) + 1);
         Sums {
@@ -127,7 +129,7 @@ impl Player<'_> {
 
     fn passed(&mut self) {
         let all = self.all_sums();
-        let other = saved::lines(&self.card) != saved::lines(&Card::reset());
+        let other = saved::lines(&self.card) != saved::lines(&Card::fresh(Edition::One));
         self.count(PASSES, true);
         self.count(PASSES_OTHER, other);
         self.count(PASSES_PAST, all.iter().any(Sums::is_out_past_the_end));
