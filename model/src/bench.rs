@@ -172,10 +172,7 @@ impl Frame {
                 let done = card.read(start, count, &mut slice);
                 put_transfer(out, 0x92, done, &slice)
             }
-            Frame::Save { mut buffer } => {
-                let saved = saved::save(card, &mut buffer);
-                put_saved(out, saved, &buffer)
-            }
+            Frame::Save { mut buffer } => put_saved(out, saved::save(card, &mut buffer), &buffer),
             Frame::Check => put_checked(out, profile::check(card)),
             Frame::Fresh(edition) => {
                 *card = Card::fresh(edition);

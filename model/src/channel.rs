@@ -245,6 +245,7 @@ impl Channel {
             free_runs: run.is_some_and(|run| run.free),
             sample_next: run.is_some_and(|run| run.wait == 1),
             given: self.given,
+            ramp: self.loaded.ramp,
             overflows: self.overflows,
         }
     }
@@ -506,5 +507,7 @@ pub struct Look {
     pub sample_next: bool,
     /// The sample given on the last tick.
     pub given: Option<Given>,
+    /// The ramp that was loaded.
+    pub ramp: Ramp,
     pub overflows: u16,
 }

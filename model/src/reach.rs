@@ -1,5 +1,6 @@
 //! What sessions reach: things that are counted while they are played.
 
+mod edition;
 mod profile;
 mod sine;
 
@@ -13,6 +14,7 @@ use crate::edition::Edition;
 use crate::line;
 use crate::program::Program;
 use crate::saved;
+use edition::Twin;
 use sine::{Origin, Written};
 
 const NO_FRAME: &str = "lines that are no frame";
@@ -109,6 +111,7 @@ fn things(program: Program) -> Vec<String> {
         things.extend(READINGS.map(reading_name));
         things.extend(OF_BENCH.map(String::from));
         things.extend(profile::OF_BENCH.map(String::from));
+        things.extend(edition::OF_BENCH.map(String::from));
     }
     things.extend(OF_BOTH.map(String::from));
     things.extend(sine::OF_BOTH.map(String::from));
@@ -183,6 +186,7 @@ struct Player<'a> {
     handed_in: [bool; CHANNELS],
     /// What has set each channel's amplitude.
     origin: [Origin; CHANNELS],
+    twin: Twin,
     /// The things that are counted once a session.
     session: BTreeSet<&'static str>,
 }
@@ -195,6 +199,7 @@ impl<'a> Player<'a> {
             waited: [0; CHANNELS],
             handed_in: [false; CHANNELS],
             origin: [Origin::Reset; CHANNELS],
+            twin: Twin::new(),
             session: BTreeSet::new(),
         }
     }
@@ -227,16 +232,21 @@ impl<'a> Player<'a> {
     /// Ticks are played singly, all other lines through the program.
     fn line(&mut self, line: &[u8]) {
         let frame = self.reach.program.frame(line);
+        if self.is_bench() {
+            self.edition_line(line, &frame);
+        }
         match frame {
             Some(Frame::Line(line::Frame::Ticks(ticks))) => {
                 self.reach.add(&frame_name(0x03), 1);
                 for _ in 0..ticks {
                     self.tick();
                 }
+                self.outputs_answered();
             }
             Some(Frame::Line(line::Frame::Event(event))) => {
                 self.reach.add(&frame_name(0x04), 1);
                 self.event(event);
+                self.outputs_answered();
             }
             _ => self.answered(line, frame),
         }
@@ -247,6 +257,7 @@ impl<'a> Player<'a> {
         let before = self.card.looks();
         let pending = self.card.pending();
         self.card.tick();
+        self.twin.tick();
         let after = self.card.looks();
         for (channel, after) in after.iter().enumerate() {
             self.count(OVERFLOWS, after.overflows != before[channel].overflows);
@@ -260,6 +271,7 @@ impl<'a> Player<'a> {
             self.shown(trigger, before);
         }
         self.sine_tick(&before, &after);
+        self.edition_tick(&after);
         before.iter().any(loads_next)
     }
 
@@ -279,6 +291,7 @@ impl<'a> Player<'a> {
         let loaded = self.tick();
         let shown = pending && self.card.pending().is_none();
         let looks = self.card.looks();
+        self.twin.receive(event);
         if self.card.receive(event) {
             self.triggered(looks);
             self.sine_trigger(&looks, true);
@@ -305,44 +318,51 @@ impl<'a> Player<'a> {
     /// A line without ticks: the answer tells what it was.
     fn answered(&mut self, line: &[u8], frame: Option<Frame>) {
         let looks = self.card.looks();
-        let mut answer = Vec::new();
-        let program = self.reach.program;
-        program
-            .answer(&mut self.card, line, &mut answer)
-            .expect("a vector takes every answer");
+        let answer = answer(self.reach.program, &mut self.card, line);
+        let twins = self.twin.answer(self.reach.program, line);
         let Some(frame) = frame else {
-            self.count(NO_SAVE, self.is_bench() && line.starts_with(b"15"));
-            self.count(
-                profile::NO_CHECK,
-                self.is_bench() && line.starts_with(b"16"),
-            );
-            return self.reach.add(NO_FRAME, 1);
+            return self.no_frame(line);
         };
+        self.edition_answered(&frame, &answer, &twins);
+        self.frame_answered(looks, &frame, &answer);
+    }
+
+    fn no_frame(&mut self, line: &[u8]) {
+        self.reach.add(NO_FRAME, 1);
+        if self.is_bench() {
+            self.count(NO_SAVE, line.starts_with(b"15"));
+            self.count(profile::NO_CHECK, line.starts_with(b"16"));
+        }
+    }
+
+    /// The looks are those just before the frame.
+    fn frame_answered(&mut self, looks: [Look; CHANNELS], frame: &Frame, answer: &[u8]) {
         let byte = |index: usize| line::field(&answer[2 * index..2 * index + 2]).unwrap() as u8;
         let processed = || line::field(&answer[4..8]).unwrap();
         // An answer's first byte is the frame's with the highest bit set.
         let kind = byte(0) - 0x80;
         self.reach.add(&frame_name(kind), 1);
         match kind {
-            0x01 | 0x11 => self.wrote(looks, &frame, byte(1), processed()),
+            0x01 | 0x11 => self.wrote(looks, frame, byte(1), processed()),
             0x02 | 0x12 => {
                 self.reach.add(&number_name("reads", byte(1)), 1);
-                if let Some(start) = start(&frame).filter(|_| processed() > 0) {
+                if let Some(start) = start(frame).filter(|_| processed() > 0) {
                     self.seen(start);
                     self.sine_read(start);
                 }
             }
             0x10 => {
-                if let Frame::Wave { channel, words } = &frame {
+                if let Frame::Wave { channel, words } = frame {
                     self.wave_table(&looks, *channel, words, byte(1));
                 }
             }
             0x15 => {
-                if let Frame::Save { buffer } = &frame {
+                if let Frame::Save { buffer } = frame {
                     self.saved(byte(1), buffer.len());
                 }
             }
             0x16 => self.checked(&looks),
+            0x17 => self.sine_forget(),
             0x18 => self.was_reset(looks),
             0x1B => self.reach.add([NOT_SHOWN, SHOWN][usize::from(byte(1))], 1),
             0x1C => {
@@ -390,15 +410,19 @@ impl<'a> Player<'a> {
         }
     }
 
+    /// Whether the settings are other ones than a reset card's.
+    fn is_other_bench(&self) -> bool {
+        saved::lines(&self.card) != saved::lines(&Card::fresh(Edition::One))
+    }
+
     /// A save into a buffer of this length was answered with the number.
     fn saved(&mut self, number: u8, length: usize) {
         let lines = saved::length();
         let done = number == 0;
-        let other = done && saved::lines(&self.card) != saved::lines(&Card::fresh(Edition::One));
         self.count(SAVED, done);
         self.count(SAVED_EXACT, done && length == lines);
         self.count(SAVED_LONGER, done && length > lines);
-        self.count(SAVED_OTHER, other);
+        self.count(SAVED_OTHER, done && self.is_other_bench());
         self.count(NOT_SAVED, number == 10);
         self.count(NOT_SAVED_BY_ONE, number == 10 && length + 1 == lines);
     }
@@ -420,6 +444,15 @@ fn loads_next(look: &Look) -> bool {
 /// Whether no channel has loaded since the last trigger.
 fn is_pending(looks: [Look; CHANNELS]) -> bool {
     looks.iter().all(|look| look.countdown > LOAD_AT)
+}
+
+/// A card's answer to a line.
+fn answer(program: Program, card: &mut Card, line: &[u8]) -> Vec<u8> {
+    let mut answer = Vec::new();
+    program
+        .answer(card, line, &mut answer)
+        .expect("a vector takes every answer");
+    answer
 }
 
 /// The start of a read.

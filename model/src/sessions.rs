@@ -1,6 +1,7 @@
 //! Random sessions for both programs, the same ones for the same seed.
 
 mod bench;
+mod edition;
 mod profile;
 mod sine;
 
@@ -90,6 +91,9 @@ pub fn write_all(program: Program, seed: u64, count: u64, directory: &Path) -> i
 /// One session; it depends on the program, the seed and its index alone.
 fn session(program: Program, seed: u64, index: u64) -> Vec<u8> {
     let mut session = Session::new(program, Random::of(seed, index));
+    if program == Program::Bench {
+        session.begin_on_an_edition(index);
+    }
     let lines = session.length();
     if lines > 5 && session.random.percent(90) {
         session.set_up();
@@ -160,6 +164,8 @@ struct Session {
     events: [u16; 3],
     /// The delays as written, by channel and level.
     delays: [[u16; 32]; 4],
+    /// The edition of its card.
+    edition: u16,
     /// Whether its channels begin in sine mode.
     sine: bool,
     /// The wave tables it has left to hand in, and those to try or to spoil.
@@ -186,6 +192,7 @@ impl Session {
             entries: [0, random.within(1, 31), random.within(1, 31)],
             events: [first, first + 1, first + 3],
             delays: [[0; 32]; 4],
+            edition: 1,
             text: Vec::new(),
             lines: 0,
             ticks: 0,
@@ -1064,6 +1071,27 @@ mod tests {
             let others = (0..20).filter(|&index| of(7, index) != of(8, index));
             assert!(others.count() > 15);
         }
+    }
+
+    /// How often sessions of the program reach each thing.
+    pub(super) fn counts<const N: usize>(
+        program: Program,
+        sessions: u64,
+        things: [&str; N],
+    ) -> [u64; N] {
+        let mut reach = Reach::new(program);
+        for index in 0..sessions {
+            reach.play(&session(program, 3, index));
+        }
+        let lines = reach.to_string();
+        things.map(|thing| {
+            let (count, _) = lines
+                .lines()
+                .filter_map(|line| line.trim().split_once(' '))
+                .find(|&(_, name)| name == thing)
+                .expect("the thing is listed");
+            count.parse().unwrap()
+        })
     }
 
     /// A hundred and fifty sessions leave no thing of the list at zero.

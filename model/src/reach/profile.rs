@@ -3,9 +3,8 @@
 use super::Player;
 use crate::card::{Card, CHANNELS};
 use crate::channel::{Look, Ramp, LEVELS};
-use crate::edition::{Edition, Fraction};
+use crate::edition::Fraction;
 use crate::profile::{self, Break};
-use crate::saved;
 use crate::sine::{signed, Mode};
 
 const PASSES: &str = "checks that pass";
@@ -129,9 +128,8 @@ impl Player<'_> {
 
     fn passed(&mut self) {
         let all = self.all_sums();
-        let other = saved::lines(&self.card) != saved::lines(&Card::fresh(Edition::One));
         self.count(PASSES, true);
-        self.count(PASSES_OTHER, other);
+        self.count(PASSES_OTHER, self.is_other_bench());
         self.count(PASSES_PAST, all.iter().any(Sums::is_out_past_the_end));
         self.count(PASSES_EDGE, all.iter().any(Sums::touches_a_border));
         self.count(

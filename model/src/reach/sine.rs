@@ -289,9 +289,14 @@ impl Player<'_> {
 
     /// The card was reset; the looks are those just before.
     pub(super) fn sine_reset(&mut self, looks: &[Look; CHANNELS]) {
+        self.sine_forget();
+        self.count(RESETS, looks.iter().any(|look| look.free_runs));
+    }
+
+    /// The card is one with zeros for wave tables and amplitudes.
+    pub(super) fn sine_forget(&mut self) {
         self.handed_in = [false; CHANNELS];
         self.origin = [Origin::Reset; CHANNELS];
-        self.count(RESETS, looks.iter().any(|look| look.free_runs));
     }
 }
 

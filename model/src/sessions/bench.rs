@@ -8,7 +8,7 @@ use crate::saved;
 const SLICE: u16 = MAX_SLICE as u16;
 
 /// The kinds of steps a session of the bench program is made of.
-pub(super) const STEPS: [Step; 22] = [
+pub(super) const STEPS: [Step; 24] = [
     (100, Session::line_step),
     (3, Session::write_tables),
     (3, Session::write_region),
@@ -25,6 +25,8 @@ pub(super) const STEPS: [Step; 22] = [
     (8, Session::check),
     (2, Session::check_a_bench),
     (3, Session::check_a_border),
+    (6, Session::round_a_ramp),
+    (2, Session::no_edition),
     (5, Session::plot_a_new_table),
     (6, Session::plot_anywhere),
     (8, Session::show_a_region),
@@ -244,7 +246,8 @@ impl Session {
 /// Resets, plotted points and panel readings.
 impl Session {
     /// A ramp of some samples on one channel, often a second trigger, a reset
-    /// on one of its ticks or near them, and looks at what is left.
+    /// or a fresh card on one of its ticks or near them, and looks at what is
+    /// left.
     fn reset_in_mid_ramp(&mut self) {
         let base = self.base();
         let [first, second, _] = self.levels;
@@ -261,10 +264,7 @@ impl Session {
             self.delay_every_channel(second);
             self.trigger_level(second);
         }
-        self.line(b"18");
-        self.delays = [[0; 32]; 4];
-        self.waved.clear();
-        self.waves = self.waves.max(1);
+        self.begin_anew();
         self.read(base + 128 * table, 6);
         self.read_active();
         for _ in 0..self.random.within(1, 4) {
@@ -384,8 +384,6 @@ impl Session {
             "1400000001",
             "1500010001",
             "1600",
-            "1700",
-            "1703",
             "1900",
             "1A00",
             "1D",

@@ -411,37 +411,21 @@ impl Session {
 
 #[cfg(test)]
 mod tests {
-    use super::super::session;
+    use super::super::tests::counts;
     use super::*;
-    use crate::reach::Reach;
 
     const SESSIONS: u64 = 200;
-
-    /// How many sessions of the program reach each thing.
-    fn reached<const N: usize>(program: Program, things: [&str; N]) -> [u64; N] {
-        let mut reach = Reach::new(program);
-        for index in 0..SESSIONS {
-            reach.play(&session(program, 3, index));
-        }
-        let lines = reach.to_string();
-        let count = |thing: &str| {
-            let named = |line: &&str| line.ends_with(&format!(" sessions with a {thing}"));
-            let line = lines.lines().find(named).expect("the thing is listed");
-            line.split_whitespace().next().unwrap().parse().unwrap()
-        };
-        things.map(count)
-    }
 
     /// Sines in half of the bench program's sessions, free runs in a quarter.
     #[test]
     fn sines_in_half_of_the_sessions() {
         let things = [
-            "sine output other than 0 and than its amplitude",
-            "free-run output other than 0",
-            "product that does not fit",
-            "sample of a plain ramp",
+            "sessions with a sine output other than 0 and than its amplitude",
+            "sessions with a free-run output other than 0",
+            "sessions with a product that does not fit",
+            "sessions with a sample of a plain ramp",
         ];
-        let [sine, free, product, plain] = reached(Program::Bench, things);
+        let [sine, free, product, plain] = counts(Program::Bench, SESSIONS, things);
         assert!(2 * sine > SESSIONS, "{sine}");
         assert!(4 * free > SESSIONS, "{free}");
         assert!(40 * product > SESSIONS, "{product}");
@@ -452,11 +436,11 @@ mod tests {
     #[test]
     fn plain_ramps_in_most_sessions_of_the_line_program() {
         let things = [
-            "sample of a plain ramp",
-            "sample in sine mode",
-            "sample in free run",
+            "sessions with a sample of a plain ramp",
+            "sessions with a sample in sine mode",
+            "sessions with a sample in free run",
         ];
-        let [plain, sine, free] = reached(Program::Rampcard, things);
+        let [plain, sine, free] = counts(Program::Rampcard, SESSIONS, things);
         assert!(5 * plain > 4 * SESSIONS, "{plain}");
         assert!(3 * sine > SESSIONS, "{sine}");
         assert!(4 * free > SESSIONS, "{free}");
