@@ -89,7 +89,7 @@ fn said(error: io::Error) -> String {
     error.to_string()
 }
 
-/// Standard input to standard output on a reset card.
+/// Standard input to standard output on a fresh card of edition 1.
 fn dialogue(program: Program) -> io::Result<()> {
     let [input, output] = [plain(io::stdin())?, plain(io::stdout())?];
     serve(program, input, BufWriter::with_capacity(PIECE, output))?;

@@ -37,8 +37,8 @@ pub fn check(card: &Card) -> Option<Break> {
 }
 
 /// The first point of a ramp whose sum is out of range. From point to point
-/// the sums go one way, so the samples between two points in range are too; the
-/// second edition's cut of f does not leave the points' own values either.
+/// the sums go one way, so the samples between two points in range are too; an f
+/// that edition 2 cuts is still no less than the lower of their values.
 fn first_out_of_range(edition: Edition, ramp: Ramp, table: &[u16]) -> Option<usize> {
     for (point, words) in table.chunks_exact(2).enumerate() {
         let f = Fraction::whole(signed(words[0]));

@@ -154,7 +154,7 @@ impl Reach {
         *count += more;
     }
 
-    /// Plays a session on a reset card.
+    /// Plays a session on a fresh card of edition 1.
     pub fn play(&mut self, session: &[u8]) {
         let mut player = Player::new(self);
         let lines = session.strip_suffix(b"\n").unwrap_or(session);
