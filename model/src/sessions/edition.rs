@@ -164,8 +164,8 @@ mod tests {
         let begins = |index, line: &[u8]| session(Program::Bench, 3, index).starts_with(line);
         let mut fresh = 0;
         for index in 0..SESSIONS {
-            assert_eq!(begins(index, b"1702\n"), index % 2 == 0, "{index}");
-            fresh += u64::from(begins(index, b"1701\n"));
+            assert_eq!(begins(index, b"1702"), index % 2 == 0, "{index}");
+            fresh += u64::from(begins(index, b"1701"));
         }
         assert!((SESSIONS / 10..SESSIONS / 2).contains(&fresh), "{fresh}");
         let line_program = |index| session(Program::Rampcard, 3, index);
