@@ -1,12 +1,12 @@
 -- The floor is what its record says, and nothing else is; what follows for factors, sizes and the order. Assumes nothing.
 use mathlib.Core.Path.{_≡_, sym, ap}
-use Prim.Native.Nat.{ℕ, _+_, _*_, _≤_, _<_}
+use Prim.Native.Nat.{ℕ, _+_, _*_, _-_, _≤_, _<_}
 use native.Mathlib.Nat.{div-add-mod', mod-lt, div-le-self, le-trans, lt-of-mul-lt-mul-right, mul-le-mul-right, mul-lt-mul-of-pos-right, mul-pos}
 use native.Mathlib.Omega.{arith}
 use lib.IntN.{ℤ, pos, negsuc, natAbs, _+ℤ_, _*ℤ_}
 use lib.Signed.{_≤ℤ_}
 use Rattle.word.proofs.Split.{up, dn, of-add, of-mul, le-split, le-join, lt-split, lt-join, eq-join}
-use Rattle.sum.specs.Floor.{floor, IsFloor}
+use Rattle.sum.specs.Floor.{floor, IsFloor, ceil, IsCeil}
 
 -- floor x d · d ≤ x < floor x d · d + d, in the two parts of each integer
 pub of-floor : (x : ℤ) (d : ℕ) → 0 < d → (up (floor x d) * d + dn x ≤ up x + dn (floor x d) * d) × (up x + dn (floor x d) * d < up (floor x d) * d + d + dn x)
@@ -41,6 +41,15 @@ floor-cancel x k d hk hd = let q = floor x k in let f = of-floor x k hk in
       low = le-join (q *ℤ pos (k * d)) (x *ℤ pos d) (omega (arith, of-mul q (pos (k * d)), of-mul x (pos d), mul-le-mul-right d (f .0)));
       high = lt-join (x *ℤ pos d) ((q +ℤ pos 1) *ℤ pos (k * d)) (omega (arith, of-mul x (pos d), of-mul (q +ℤ pos 1) (pos (k * d)), ap (λ (n : ℕ). n * (k * d)) (of-add q (pos 1)), mul-lt-mul-of-pos-right (f .1) hd));
     }))
+
+-- a whole number is its own floor
+pub floor-one : (x : ℤ) → floor x 1 ≡ x
+floor-one (pos a) = ap pos (omega arith)
+floor-one (negsuc a) = ap negsuc (omega arith)
+
+-- rounded up is what its record says
+pub ceil-is : (n d : ℕ) → 0 < d → IsCeil n d (ceil n d)
+ceil-is n d h = record { enough = omega (arith, div-add-mod' (n + (d - 1)) d, mod-lt (n + (d - 1)) h); least = omega (arith, div-add-mod' (n + (d - 1)) d, mod-lt (n + (d - 1)) h) }
 
 pub size-floor : (x : ℤ) (d : ℕ) {m : ℕ} → natAbs x ≤ m → natAbs (floor x d) ≤ m
 size-floor (pos a) d h = le-trans (div-le-self a d) h

@@ -11,6 +11,7 @@ use Rattle.word.specs.Word.{signedOf, wordOf}
 use Rattle.word.proofs.Split.{le-split, lt-split, lt-join}
 use Rattle.word.proofs.Number.{signed-of-word}
 use Rattle.sum.specs.Sample.{sideOf, settled, totalOf}
+use Rattle.sum.specs.declared.Edition.{Edition}
 use Rattle.sum.specs.declared.Side.{Side}
 use Rattle.sum.specs.declared.Side.the-variants.{Below, Within, Above}
 use Rattle.sum.specs.declared.Sum.the-variants.{Word}
@@ -81,20 +82,20 @@ convex g (inl r) m i e h = between (g m) (g (m + i)) (g (m + i + e)) (r .up-to m
 convex g (inr f) m i e h = between (g (m + i + e)) (g (m + i)) (g m) (f .down-to (m + i) e) (f .down-to m i) (sym h) ∙ sym h
 
 -- WHERE TWO SAMPLES OF A SEGMENT SHARE THEIR SIDE, EACH BETWEEN THEM HAS IT TOO
-pub segment-side : (scale from to step offset m i e : ℕ)
-    → sideOf (totalOf scale from to step m offset) ≡ sideOf (totalOf scale from to step (m + i + e) offset)
-    → sideOf (totalOf scale from to step (m + i) offset) ≡ sideOf (totalOf scale from to step m offset)
-segment-side scale from to step offset = convex (λ m. totalOf scale from to step m offset) (one-way (signedOf scale) (signedOf offset) (signedOf from) (signedOf to) step)
+pub segment-side : (ed : Edition) (scale from to step offset m i e : ℕ)
+    → sideOf (totalOf ed scale from to step m offset) ≡ sideOf (totalOf ed scale from to step (m + i + e) offset)
+    → sideOf (totalOf ed scale from to step (m + i) offset) ≡ sideOf (totalOf ed scale from to step m offset)
+segment-side ed scale from to step offset = convex (λ m. totalOf ed scale from to step m offset) (one-way ed (signedOf scale) (signedOf offset) (signedOf from) (signedOf to) step)
 
 -- WHERE BOTH POINTS OF A SEGMENT ARE IN RANGE, EVERY SAMPLE BETWEEN THEM IS
 both-within : (x y z : ℤ) → Between x y z → sideOf x ≡ Within → sideOf z ≡ Within → sideOf y ≡ Within
 both-within x y z (inl (l, m)) a b = between x y z l m (a ∙ sym b) ∙ a
 both-within x y z (inr (l, m)) a b = between z y x l m (b ∙ sym a) ∙ b
 
-pub points-decide : (scale from to step left offset : ℕ) → 1 ≤ step → left ≤ step
-    → sideOf (totalOf scale from from 0 0 offset) ≡ Within → sideOf (totalOf scale to to 0 0 offset) ≡ Within
-    → sideOf (totalOf scale from to step left offset) ≡ Within
-points-decide scale from to zero left offset h l a b = absurd (omega arith)
-points-decide scale from to (suc d) left offset h l a b =
+pub points-decide : (ed : Edition) (scale from to step left offset : ℕ) → 1 ≤ step → left ≤ step
+    → sideOf (totalOf ed scale from from 0 0 offset) ≡ Within → sideOf (totalOf ed scale to to 0 0 offset) ≡ Within
+    → sideOf (totalOf ed scale from to step left offset) ≡ Within
+points-decide ed scale from to zero left offset h l a b = absurd (omega arith)
+points-decide ed scale from to (suc d) left offset h l a b =
     rw (eqb·suc-zero d)
-    (both-within _ _ _ (between-points (signedOf scale) (signedOf offset) (signedOf from) (signedOf to) (suc d) left (omega arith) l) a b)
+    (both-within _ _ _ (between-points ed (signedOf scale) (signedOf offset) (signedOf from) (signedOf to) (suc d) left (omega arith) l) a b)

@@ -1,5 +1,5 @@
--- 'floor toward minus infinity': an integer over a positive number, rounded down.
-use Prim.Native.Nat.{ℕ, _/_}
+-- 'floor toward minus infinity': an integer over a positive number, rounded down; and a number's size rounded up.
+use Prim.Native.Nat.{ℕ, _+_, _*_, _-_, _/_, _≤_, _<_}
 use lib.IntN.{ℤ, pos, negsuc, _+ℤ_, _*ℤ_}
 use lib.Signed.{_≤ℤ_, _<ℤ_}
 
@@ -12,3 +12,12 @@ floor (negsuc a) d = negsuc (a / d)
 pub record IsFloor (n : ℤ) (d : ℕ) (q : ℤ) : Type 0 where
   pub low : (q *ℤ pos d) ≤ℤ n
   pub high : n <ℤ ((q +ℤ pos 1) *ℤ pos d)
+
+-- 'rounded up', of plain numbers: the least number whose multiple of d is not below n
+abbrev pub ceil : ℕ → ℕ → ℕ
+ceil n d = (n + (d - 1)) / d
+
+-- what makes q that: n ≤ q·d < n + d
+pub record IsCeil (n d q : ℕ) : Type 0 where
+  pub enough : n ≤ q * d
+  pub least : q * d < n + d

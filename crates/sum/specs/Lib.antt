@@ -4,4 +4,5 @@ pub mod Sample
 pub mod Product
 pub mod Order
 pub mod Ramp
+pub mod Editions
 pub mod Starred

@@ -1,10 +1,11 @@
--- The samples of a whole ramp, in order, and T, from its points alone.
+-- The samples of a whole ramp in an edition, in order, and T, from its points alone.
 use mathlib.Core.Bool.{cond}
 use mathlib.Core.List.{List, [], _∷_}
 use Prim.Native.Nat.{ℕ, zero, suc, _+_}
 use lib.Dec.{eqb}
 use Rattle.sum.specs.Sample.{sampleOf}
 use Rattle.sum.specs.declared.Sum.{Sum}
+use Rattle.sum.specs.declared.Edition.{Edition}
 
 -- V and Δt, two words
 pub record Point : Type 0 where
@@ -17,20 +18,20 @@ downTo at zero rest = rest
 downTo at (suc m) rest = at (suc m) ∷ downTo at m rest
 
 -- at the end point: f is that V, the sample is given, and the ramp rests
-abbrev pub ending : ℕ → ℕ → Point → List Sum
-ending scale offset p = sampleOf scale (p .value) (p .value) 0 0 offset ∷ []
+abbrev pub ending : Edition → ℕ → ℕ → Point → List Sum
+ending edition scale offset p = sampleOf edition scale (p .value) (p .value) 0 0 offset ∷ []
 
 -- from the point p on, with the points after it: p ends the ramp if its Δt is 0, or if it is the last
-abbrev pub rampFrom : ℕ → ℕ → Point → List Point → List Sum
-rampFrom scale offset p [] = ending scale offset p
-rampFrom scale offset p (q ∷ ps) =
+abbrev pub rampFrom : Edition → ℕ → ℕ → Point → List Point → List Sum
+rampFrom edition scale offset p [] = ending edition scale offset p
+rampFrom edition scale offset p (q ∷ ps) =
     cond (eqb (p .step) 0)
-    (ending scale offset p)
-    (downTo (λ m. sampleOf scale (p .value) (q .value) (p .step) m offset) (p .step) (rampFrom scale offset q ps))
+    (ending edition scale offset p)
+    (downTo (λ m. sampleOf edition scale (p .value) (q .value) (p .step) m offset) (p .step) (rampFrom edition scale offset q ps))
 
-abbrev pub ramp : ℕ → ℕ → List Point → List Sum
-ramp scale offset [] = []
-ramp scale offset (p ∷ ps) = rampFrom scale offset p ps
+abbrev pub ramp : Edition → ℕ → ℕ → List Point → List Sum
+ramp edition scale offset [] = []
+ramp edition scale offset (p ∷ ps) = rampFrom edition scale offset p ps
 
 -- T, the sum of the time steps before the end point
 abbrev pub stepsFrom : Point → List Point → ℕ

@@ -2,6 +2,7 @@
 use mathlib.Core.List.{List, [], _∷_}
 use Prim.Native.Nat.{ℕ, _-_}
 use Rattle.sum.specs.Ramp.{Point, ramp, rampSteps}
+use Rattle.sum.specs.declared.Edition.the-variants.{First, Second}
 use Rattle.sum.specs.declared.Sum.{Sum}
 use Rattle.sum.specs.declared.Sum.the-variants.{Word, Overflow}
 
@@ -40,6 +41,29 @@ starredSamples =
     ∷ case 0x0200 (neg 32767) (pt 32767 0 ∷ []) (w 32767 ∷ []) 0
     ∷ []
 
--- a case with what its ramp gives
+-- a case with what its ramp gives, in edition 1
 abbrev pub samplesGiven : Case → Case
-samplesGiven c = case (c .scale) (c .offset) (c .points) (ramp (c .scale) (c .offset) (c .points)) (rampSteps (c .points))
+samplesGiven c = case (c .scale) (c .offset) (c .points) (ramp First (c .scale) (c .offset) (c .points)) (rampSteps (c .points))
+
+-- Document 02, Six: a ramp's scale word and points, and its samples in edition 1 and in edition 2
+pub record TwoCase : Type 0 where
+  pub scale : ℕ
+  pub points : List Point
+  pub first : List Sum
+  pub second : List Sum
+
+abbrev two : ℕ → List Point → List Sum → List Sum → TwoCase
+two s ps g h = record { scale = s; points = ps; first = g; second = h }
+
+-- the request's own: 'sample 2 is 13 in edition 1 and 12 in edition 2'. Then, with a factor of 511/256 either way, sample 2 reaches the bound of
+-- 2 and sample 0 the bound of 0
+abbrev pub starredEditions : List TwoCase
+starredEditions =
+    two 0x0200 (pt 0 3 ∷ pt 10 0 ∷ []) (w 0 ∷ w 6 ∷ w 13 ∷ w 20 ∷ []) (w 0 ∷ w 6 ∷ w 12 ∷ w 20 ∷ [])
+    ∷ two 0x01FF (pt 1 3 ∷ pt 2 0 ∷ []) (w 1 ∷ w 2 ∷ w 3 ∷ w 3 ∷ []) (w 1 ∷ w 1 ∷ w 1 ∷ w 3 ∷ [])
+    ∷ two (neg 0x01FF) (pt 0 3 ∷ pt 1 0 ∷ []) (w 0 ∷ w (neg 1) ∷ w (neg 2) ∷ w (neg 2) ∷ []) (w 0 ∷ w 0 ∷ w 0 ∷ w (neg 2) ∷ [])
+    ∷ []
+
+-- a case with what its ramp gives, offset 0, in each
+abbrev pub editionsGiven : TwoCase → TwoCase
+editionsGiven c = two (c .scale) (c .points) (ramp First (c .scale) 0 (c .points)) (ramp Second (c .scale) 0 (c .points))

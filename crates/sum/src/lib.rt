@@ -1,4 +1,5 @@
-// One sample of a ramp: floor(S·f/256) + offset, with f an exact fraction; and the product of a sine.
+// One sample of a ramp: floor(S·f/256) + offset, with f an exact fraction, or in the second edition f cut to a whole number; and the
+// product of a sine.
 use word::Samples;
 ghost use mathlib.Core.Path.{_≡_};
 ghost use Prim.Native.Nat.{_*_, _<_, _≤_, _^_};
@@ -7,8 +8,14 @@ ghost use Rattle.word.specs.Word.{signedOf, wordOf};
 ghost use Rattle.sum.specs.declared.Side.the-variants.{Within};
 ghost use Rattle.sum.specs.Floor.{floor};
 ghost use Rattle.sum.specs.Fraction.{above};
-ghost use Rattle.sum.specs.Sample.{totalOf, sideOf, settled, sampleOf};
+ghost use Rattle.sum.specs.Sample.{sumOf, totalOf, sideOf, settled, sampleOf};
 ghost use Rattle.sum.specs.Product.{productOf, scaledBy};
+
+// The card's hardware edition: the first rounds a sum once, the second cuts f to a whole number before scaling.
+pub enum Edition {
+    First,
+    Second,
+}
 
 // A sample as a word, or none where the sum is out of range.
 pub enum Sum {
@@ -25,22 +32,38 @@ pub enum Side {
 
 // The sample with `left` of `step` samples left from the point `from` to the point `to`;
 // a step of 0 ends the ramp at `from`.
-pub fn sample(scale: u16, from: u16, to: u16, step: Samples, left: Samples, offset: u16) -> Sum
-    ensures { λ r. ⌜ r ≡ sampleOf scale from to (step .0) (left .0) offset ⌝ }
+pub fn sample(
+    edition: Edition,
+    scale: u16,
+    from: u16,
+    to: u16,
+    step: Samples,
+    left: Samples,
+    offset: u16,
+) -> Sum
+    ensures { λ r. ⌜ r ≡ sampleOf edition scale from to (step .0) (left .0) offset ⌝ }
 {
-    settle(total(scale, from, to, step, left, offset))
+    settle(total(edition, scale, from, to, step, left, offset))
 }
 
 // The sum of that sample, before its range is checked.
-pub fn total(scale: u16, from: u16, to: u16, step: Samples, left: Samples, offset: u16) -> i64
-    ensures { λ r. ⌜ r ≡ totalOf scale from to (step .0) (left .0) offset ⌝ }
+pub fn total(
+    edition: Edition,
+    scale: u16,
+    from: u16,
+    to: u16,
+    step: Samples,
+    left: Samples,
+    offset: u16,
+) -> i64
+    ensures { λ r. ⌜ r ≡ totalOf edition scale from to (step .0) (left .0) offset ⌝ }
 {
     let d = step.0;
     let m = left.0;
     if d == 0 {
-        return raised(scale, number(from), 1, offset);
+        return rounded(edition, scale, number(from), 1, offset);
     }
-    raised(scale, rise(from, to, d, m), d, offset)
+    rounded(edition, scale, rise(from, to, d, m), d, offset)
 }
 
 // An amplitude times a wave's word, over 16384: the output in sine mode.
@@ -119,7 +142,18 @@ fn rise(from: u16, to: u16, step: u16, left: u16) -> i64
     b * step as i64 - (b - a) * left as i64
 }
 
-// The sum at f = num / den.
+// The sum of an edition at f = num / den.
+fn rounded(edition: Edition, scale: u16, num: i64, den: u16, offset: u16) -> i64
+    requires { ⌜ (natAbs num ≤ 2 ^ 33) × (0 < den) ⌝ }
+    ensures { λ r. ⌜ r ≡ sumOf edition (signedOf scale) (record { num = num; den = den }) (signedOf offset) ⌝ }
+{
+    match edition {
+        Edition::First => raised(scale, num, den, offset),
+        Edition::Second => raised(scale, floor_div(num, den as u32), 1, offset),
+    }
+}
+
+// The sum of f = num / den, rounded once.
 fn raised(scale: u16, num: i64, den: u16, offset: u16) -> i64
     requires { ⌜ (natAbs num ≤ 2 ^ 33) × (0 < den) ⌝ }
     ensures { λ r. ⌜ r ≡ floor (signedOf scale *ℤ num) (256 * den) +ℤ signedOf offset ⌝ }

@@ -46,22 +46,22 @@ module _ (c : tie.After-rise) where
 number-requires : tie.Need-number-requires
 number-requires c κs = search needs
 
-raised-requires : tie.Need-raised-requires
-raised-requires c κs = rw (point-is c) (le-trans (point-size c) (lit≤ tt), lit≤ tt)
+rounded-requires : tie.Need-rounded-requires
+rounded-requires c κs = rw (point-is c) (le-trans (point-size c) (lit≤ tt), lit≤ tt)
 
 rise-requires : tie.Need-rise-requires
 rise-requires c κs = search needs
 
-raised-requires-2 : tie.Need-raised-requires-2
-raised-requires-2 c κs = rw (rise-is c) (rise-size c, omega arith)
+rounded-requires-2 : tie.Need-rounded-requires-2
+rounded-requires-2 c κs = rw (rise-is c) (rise-size c, omega arith)
 
 returns : tie.Need-returns
-returns c = kept w64 _ (c .raised .ok) ∙ c .raised .ensures ∙ rw (point-is (c .before), eq-eqb _ _ (c .before .before .if1 .taken))
+returns c = kept w64 _ (c .rounded .ok) ∙ c .rounded .ensures ∙ rw (point-is (c .before), eq-eqb _ _ (c .before .before .if1 .taken))
 
 returns-2 : tie.Need-returns-2
-returns-2 c = kept w64 _ (c .raised2 .ok) ∙ c .raised2 .ensures ∙ rw (rise-is (c .before), ne-eqb _ _ (c .before .before .if1 .left))
+returns-2 c = kept w64 _ (c .rounded2 .ok) ∙ c .rounded2 .ensures ∙ rw (rise-is (c .before), ne-eqb _ _ (c .before .before .if1 .left))
 
 pub total-spec : {M : Type 1} → statement M
 total-spec =
     tie.close
-    (tie.spec number-requires raised-requires returns rise-requires raised-requires-2 returns-2)
+    (tie.spec number-requires rounded-requires returns rise-requires rounded-requires-2 returns-2)
