@@ -9,6 +9,7 @@ use lib.ListN.{getD}
 use Rattle.word.specs.Word.{lasting}
 use Rattle.word.specs.Lent.{Lent, left}
 use Rattle.word.specs.Copy.{copied}
+use Rattle.sum.specs.declared.Edition.{Edition}
 use Rattle.map.specs.Addresses.{tableAt, rampMapAt, scaleMapAt, scaleAt, offsetMapAt, offsetAt, delayAt, frequencyMapAt, frequencyAt, phaseMapAt, phaseAt, enableAt, modeAt}
 use Rattle.channel.specs.declared.Shown.{Shown}
 use Rattle.channel.specs.declared.Tone.{Tone}
@@ -153,28 +154,28 @@ abbrev pub movedOn : Channel → List ℕ → Moved → Move
 movedOn ch l m = move (with ch (phaseOf (m .ramp)) (m .shown)) l (m .gave)
 
 -- 'at countdown 0 the ramp starts if A00 is 1; otherwise nothing starts'; 'samples come at the start and every 10 ticks'
-unfoldable pub start : List ℕ → List ℕ → ℕ → Channel → Move
-start s l c ch =
+unfoldable pub start : Edition → List ℕ → List ℕ → ℕ → Channel → Move
+start edition s l c ch =
     cond (eqb (word s (enableAt c)) 1)
-    (movedOn ch l (given true l (firstOf c) (ch .loaded) (lasting 1) (enter l (firstOf c) 0) (ch .shown)))
+    (movedOn ch l (given edition true l (firstOf c) (ch .loaded) (lasting 1) (enter l (firstOf c) 0) (ch .shown)))
     (quiet (side (with ch Rest (ch .shown)) l))
 
 -- the countdown reaches m: the start at 0, the load at 10, which comes before the older ramp's sample; else the older ramp moves on
-unfoldable pub countTo : ℕ → Ramp → List ℕ → List ℕ → ℕ → Channel → Move
-countTo m older s l c ch =
-    let o : Moved = advance l (firstOf c) (ch .loaded) older (ch .shown) in
+unfoldable pub countTo : Edition → ℕ → Ramp → List ℕ → List ℕ → ℕ → Channel → Move
+countTo edition m older s l c ch =
+    let o : Moved = advance edition l (firstOf c) (ch .loaded) older (ch .shown) in
     cond (eqb m 0)
-    (start s l c ch)
+    (start edition s l c ch)
     (cond (loadsAt m) (quiet (load s l c ch (ch .level))) (move (with ch (Counting (record { 0 = m }) (o .ramp)) (o .shown)) l (o .gave)))
 
-unfoldable pub moveAt : Phase → List ℕ → List ℕ → ℕ → Channel → Move
-moveAt Rest s l c ch = quiet (side ch l)
-moveAt (Counting n older) s l c ch = countTo (n .0 - 1) older s l c ch
-moveAt (Running w) s l c ch = movedOn ch l (advance l (firstOf c) (ch .loaded) (Going w) (ch .shown))
-moveAt (FreeRunning w) s l c ch = movedOn ch l (advance l (firstOf c) (ch .loaded) (Free w) (ch .shown))
+unfoldable pub moveAt : Edition → Phase → List ℕ → List ℕ → ℕ → Channel → Move
+moveAt edition Rest s l c ch = quiet (side ch l)
+moveAt edition (Counting n older) s l c ch = countTo edition (n .0 - 1) older s l c ch
+moveAt edition (Running w) s l c ch = movedOn ch l (advance edition l (firstOf c) (ch .loaded) (Going w) (ch .shown))
+moveAt edition (FreeRunning w) s l c ch = movedOn ch l (advance edition l (firstOf c) (ch .loaded) (Free w) (ch .shown))
 
-abbrev pub moveOf : List ℕ → List ℕ → ℕ → Channel → Move
-moveOf s l c ch = moveAt (ch .phase) s l c ch
+abbrev pub moveOf : Edition → List ℕ → List ℕ → ℕ → Channel → Move
+moveOf edition s l c ch = moveAt edition (ch .phase) s l c ch
 
 -- what the first pass hands back, and the tables left
 abbrev pub ticked : Move → Ticked
@@ -192,8 +193,8 @@ sounded w c ch g = withSignal ch (makeOf w c g (ch .loaded .tone) (ch .shown .am
 abbrev pub soundedSide : List ℕ → ℕ → Move → Side
 soundedSide w c x = side (sounded w c (x .channel) (x .gave)) (x .tables)
 
-unfoldable pub tickOf : List ℕ → List ℕ → List ℕ → ℕ → Channel → Side
-tickOf s w l c ch = soundedSide w c (moveOf s l c ch)
+unfoldable pub tickOf : Edition → List ℕ → List ℕ → List ℕ → ℕ → Channel → Side
+tickOf edition s w l c ch = soundedSide w c (moveOf edition s l c ch)
 
 -- ---- a trigger
 

@@ -6,6 +6,7 @@ use Prim.Native.Nat.{ℕ, _+_, _-_, _/_, _%_}
 use lib.Dec.{ltb, eqb}
 use Rattle.word.specs.Word.{grown}
 use Rattle.word.specs.Table.{valueAt, stepAt, isEnd}
+use Rattle.sum.specs.declared.Edition.{Edition}
 use Rattle.sum.specs.declared.Sum.{Sum}
 use Rattle.sum.specs.declared.Sum.the-variants.{Word, Overflow}
 use Rattle.sum.specs.Sample.{sampleOf}
@@ -30,12 +31,12 @@ enter w first n = place n (cond (isEnd n (stepAt w first n)) 0 (stepAt w first n
 unfoldable pub next : List ℕ → ℕ → Place → Place
 next w first p = cond (ltb 1 (p .left .0)) (place (p .segment) (p .left .0 - 1)) (enter w first (grown (p .segment)))
 
--- 'in segment n with m samples left'; at the end point f is that V
-unfoldable pub sampleAt : List ℕ → ℕ → Loaded → Place → Sum
-sampleAt w first l p =
+-- 'in segment n with m samples left', rounded as the card's edition has it; at the end point f is that V
+unfoldable pub sampleAt : Edition → List ℕ → ℕ → Loaded → Place → Sum
+sampleAt edition w first l p =
     cond (eqb (p .left .0) 0)
-    (sampleOf (l .scale) (valueAt w first (p .segment)) (valueAt w first (p .segment)) 0 0 (l .offset))
-    (sampleOf (l .scale) (valueAt w first (p .segment)) (valueAt w first (p .segment + 1)) (stepAt w first (p .segment)) (p .left .0) (l .offset))
+    (sampleOf edition (l .scale) (valueAt w first (p .segment)) (valueAt w first (p .segment)) 0 0 (l .offset))
+    (sampleOf edition (l .scale) (valueAt w first (p .segment)) (valueAt w first (p .segment + 1)) (stepAt w first (p .segment)) (p .left .0) (l .offset))
 
 -- a sum in range, or where it overflows what was held just before
 abbrev pub hold : Sum → ℕ → ℕ
@@ -46,8 +47,8 @@ hold Overflow before = before
 abbrev pub put : Sum → Place → Shown → Shown
 put x p s = record { amplitude = hold x (s .amplitude); place = p }
 
-abbrev pub give : List ℕ → ℕ → Loaded → Place → Shown → Shown
-give w first l p s = put (sampleAt w first l p) p s
+abbrev pub give : Edition → List ℕ → ℕ → Loaded → Place → Shown → Shown
+give edition w first l p s = put (sampleAt edition w first l p) p s
 
 -- a ramp on its way: the last sample's place, the microseconds to the next sample, and those from one sample to the next
 abbrev pub way : Place → ℕ → ℕ → Way
@@ -69,12 +70,12 @@ abbrev pub onward : Loaded → ℕ → Place → Ramp
 onward l period p = cond (eqb (p .left .0) 0) (ended l period p) (Going (way p period period))
 
 -- the ramp's first sample, or a later one
-unfoldable pub given : Bool → List ℕ → ℕ → Loaded → ℕ → Place → Shown → Moved
-given isFirst w first l period p s =
+unfoldable pub given : Edition → Bool → List ℕ → ℕ → Loaded → ℕ → Place → Shown → Moved
+given edition isFirst w first l period p s =
     record {
       ramp = onward l period p;
-      shown = give w first l p s;
-      gave = OfRamp isFirst (sampleAt w first l p);
+      shown = give edition w first l p s;
+      gave = OfRamp isFirst (sampleAt edition w first l p);
     }
 
 -- no sample yet: a microsecond less to the next
@@ -85,11 +86,11 @@ abbrev pub unsampled : Ramp → Shown → Moved
 unsampled r s = record { ramp = r; shown = s; gave = NoSample }
 
 -- one tick of a ramp; a free run moves neither the amplitude nor the place: 'A33 and A34 staying'
-unfoldable pub advance : List ℕ → ℕ → Loaded → Ramp → Shown → Moved
-advance w first l Still s = unsampled Still s
-advance w first l (Going r) s =
-    cond (ltb 1 (r .wait .0)) (unsampled (Going (sooner r)) s) (given false w first l (r .period .0) (next w first (r .place)) s)
-advance w first l (Free r) s =
+unfoldable pub advance : Edition → List ℕ → ℕ → Loaded → Ramp → Shown → Moved
+advance edition w first l Still s = unsampled Still s
+advance edition w first l (Going r) s =
+    cond (ltb 1 (r .wait .0)) (unsampled (Going (sooner r)) s) (given edition false w first l (r .period .0) (next w first (r .place)) s)
+advance edition w first l (Free r) s =
     cond (ltb 1 (r .wait .0))
     (unsampled (Free (sooner r)) s)
     (record { ramp = Free (way (r .place) (r .period .0) (r .period .0)); shown = s; gave = OfFreeRun })

@@ -1,5 +1,6 @@
 // One channel: its phase, its countdown, the load, the start, the samples of its ramp and the output that is made of them.
 // Settings are lent by address; loaded tables and wave tables one after the other, 128 and 1,024 words a channel.
+use sum::Edition;
 use sum::Sum;
 use word::Micros;
 use word::Samples;
@@ -98,16 +99,22 @@ pub struct Ticked {
     pub gave: Gave,
 }
 
-// One microsecond of channel c, first pass: its ramp's value moves.
-pub fn move_ramp(settings: &[u16; 16960], tables: &mut [u16; 512], c: u16, ch: Channel) -> Ticked
-    ensures { λ r. ⌜ Moves (moveOf (lent settings) (lent tables) c ch) r tables ⌝ }
+// One microsecond of channel c on a card of an edition, first pass: its ramp's value moves.
+pub fn move_ramp(
+    settings: &[u16; 16960],
+    tables: &mut [u16; 512],
+    edition: Edition,
+    c: u16,
+    ch: Channel,
+) -> Ticked
+    ensures { λ r. ⌜ Moves (moveOf edition (lent settings) (lent tables) c ch) r tables ⌝ }
 {
     let p = ch.phase;
     match p {
         Phase::Rest => quiet(ch),
-        Phase::Counting(n, older) => count(settings, tables, c, ch, n, older),
-        Phase::Running(w) => run_on(tables, c, ch, w),
-        Phase::FreeRunning(w) => run(tables, c, ch, Ramp::Free(w)),
+        Phase::Counting(n, older) => count(settings, tables, edition, c, ch, n, older),
+        Phase::Running(w) => run_on(tables, edition, c, ch, w),
+        Phase::FreeRunning(w) => run(tables, edition, c, ch, Ramp::Free(w)),
     }
 }
 
@@ -292,8 +299,8 @@ fn moved_on(ch: Channel, m: Moved) -> Ticked
 }
 
 // The channel after one tick of the ramp on its way; nine times in ten it only waits.
-fn run_on(tables: &[u16], c: u16, ch: Channel, w: Way) -> Ticked
-    ensures { λ r. ⌜ r ≡ ticked (movedOn ch (lent tables) (advance (lent tables) (firstOf c) (ch .loaded) (Ramp.Going w) (ch .shown))) ⌝ }
+fn run_on(tables: &[u16], edition: Edition, c: u16, ch: Channel, w: Way) -> Ticked
+    ensures { λ r. ⌜ r ≡ ticked (movedOn ch (lent tables) (advance edition (lent tables) (firstOf c) (ch .loaded) (Ramp.Going w) (ch .shown))) ⌝ }
 {
     let wait = w.wait.0;
     if 1 < wait {
@@ -302,39 +309,40 @@ fn run_on(tables: &[u16], c: u16, ch: Channel, w: Way) -> Ticked
         let shown = ch.shown;
         return quiet(in_phase(ch, Phase::Running(on_way(p, wait - 1, period)), shown));
     }
-    run(tables, c, ch, Ramp::Going(w))
+    run(tables, edition, c, ch, Ramp::Going(w))
 }
 
 // The channel after one tick of its ramp.
-fn run(tables: &[u16], c: u16, ch: Channel, ramp: Ramp) -> Ticked
-    ensures { λ r. ⌜ r ≡ ticked (movedOn ch (lent tables) (advance (lent tables) (firstOf c) (ch .loaded) ramp (ch .shown))) ⌝ }
+fn run(tables: &[u16], edition: Edition, c: u16, ch: Channel, ramp: Ramp) -> Ticked
+    ensures { λ r. ⌜ r ≡ ticked (movedOn ch (lent tables) (advance edition (lent tables) (firstOf c) (ch .loaded) ramp (ch .shown))) ⌝ }
 {
     let loaded = ch.loaded;
     let shown = ch.shown;
-    moved_on(ch, step(tables, c, loaded, ramp, shown))
+    moved_on(ch, step(tables, edition, c, loaded, ramp, shown))
 }
 
 // The countdown falls by one: the start at 0, the load at 10, else the older ramp moves on.
 fn count(
     settings: &[u16],
     tables: &mut [u16],
+    edition: Edition,
     c: u16,
     ch: Channel,
     n: Micros,
     older: Ramp,
 ) -> Ticked
-    ensures { λ r. ⌜ Moves (countTo (n .0 - 1) older (lent settings) (lent tables) c ch) r tables ⌝ }
+    ensures { λ r. ⌜ Moves (countTo edition (n .0 - 1) older (lent settings) (lent tables) c ch) r tables ⌝ }
 {
     let d = n.0;
     if d <= 1 {
-        return start_ramp(settings, tables, c, ch);
+        return start_ramp(settings, tables, edition, c, ch);
     }
     if d == 11 {
         return quiet(load_level(settings, tables, c, ch, ch.level));
     }
     let loaded = ch.loaded;
     let shown = ch.shown;
-    let m = step(tables, c, loaded, older, shown);
+    let m = step(tables, edition, c, loaded, older, shown);
     let ramp = m.ramp;
     let after = m.shown;
     let gave = m.gave;
@@ -405,8 +413,8 @@ fn word_at(settings: &[u16], c: u16, offset: u16, index: u16) -> u16
 }
 
 // At countdown 0: the ramp starts if the waveform is enabled.
-fn start_ramp(settings: &[u16], tables: &[u16], c: u16, ch: Channel) -> Ticked
-    ensures { λ r. ⌜ r ≡ ticked (start (lent settings) (lent tables) c ch) ⌝ }
+fn start_ramp(settings: &[u16], tables: &[u16], edition: Edition, c: u16, ch: Channel) -> Ticked
+    ensures { λ r. ⌜ r ≡ ticked (start edition (lent settings) (lent tables) c ch) ⌝ }
 {
     let loaded = ch.loaded;
     let shown = ch.shown;
@@ -415,6 +423,7 @@ fn start_ramp(settings: &[u16], tables: &[u16], c: u16, ch: Channel) -> Ticked
             ch,
             sample_given(
                 tables,
+                edition,
                 c,
                 true,
                 loaded,
@@ -428,8 +437,8 @@ fn start_ramp(settings: &[u16], tables: &[u16], c: u16, ch: Channel) -> Ticked
 }
 
 // One tick of a ramp.
-fn step(tables: &[u16], c: u16, loaded: Loaded, ramp: Ramp, shown: Shown) -> Moved
-    ensures { λ r. ⌜ r ≡ advance (lent tables) (firstOf c) loaded ramp shown ⌝ }
+fn step(tables: &[u16], edition: Edition, c: u16, loaded: Loaded, ramp: Ramp, shown: Shown) -> Moved
+    ensures { λ r. ⌜ r ≡ advance edition (lent tables) (firstOf c) loaded ramp shown ⌝ }
 {
     match ramp {
         Ramp::Still => unsampled(Ramp::Still, shown),
@@ -442,6 +451,7 @@ fn step(tables: &[u16], c: u16, loaded: Loaded, ramp: Ramp, shown: Shown) -> Mov
             }
             sample_given(
                 tables,
+                edition,
                 c,
                 false,
                 loaded,
@@ -490,6 +500,7 @@ fn unsampled(ramp: Ramp, shown: Shown) -> Moved
 // The sample at a place is given; at the end point the ramp rests or free-runs, elsewhere the next sample comes a period later.
 fn sample_given(
     tables: &[u16],
+    edition: Edition,
     c: u16,
     first: bool,
     loaded: Loaded,
@@ -497,9 +508,9 @@ fn sample_given(
     p: Place,
     shown: Shown,
 ) -> Moved
-    ensures { λ r. ⌜ r ≡ given first (lent tables) (firstOf c) loaded (period .0) p shown ⌝ }
+    ensures { λ r. ⌜ r ≡ given edition first (lent tables) (firstOf c) loaded (period .0) p shown ⌝ }
 {
-    let sum = sample_at(tables, c, loaded, p);
+    let sum = sample_at(tables, edition, c, loaded, p);
     let after = shown_after(sum, p, shown);
     Moved {
         ramp: ramp_after(loaded, period, p),
@@ -697,8 +708,8 @@ fn is_overflow(sum: Sum) -> bool
 // ---- a sample and its place
 
 // The sample at a place.
-fn sample_at(tables: &[u16], c: u16, loaded: Loaded, p: Place) -> Sum
-    ensures { λ r. ⌜ r ≡ sampleAt (lent tables) (firstOf c) loaded p ⌝ }
+fn sample_at(tables: &[u16], edition: Edition, c: u16, loaded: Loaded, p: Place) -> Sum
+    ensures { λ r. ⌜ r ≡ sampleAt edition (lent tables) (firstOf c) loaded p ⌝ }
 {
     let n = p.segment as usize;
     let left = p.left;
@@ -706,6 +717,7 @@ fn sample_at(tables: &[u16], c: u16, loaded: Loaded, p: Place) -> Sum
     let from = word::get(tables, first + 2 * n);
     if left.0 == 0 {
         return sum::sample(
+            edition,
             loaded.scale,
             from,
             from,
@@ -716,7 +728,15 @@ fn sample_at(tables: &[u16], c: u16, loaded: Loaded, p: Place) -> Sum
     }
     let step = word::get(tables, first + 2 * n + 1);
     let to = word::get(tables, first + 2 * (n + 1));
-    sum::sample(loaded.scale, from, to, Samples(step), left, loaded.offset)
+    sum::sample(
+        edition,
+        loaded.scale,
+        from,
+        to,
+        Samples(step),
+        left,
+        loaded.offset,
+    )
 }
 
 // The place of the sample after the one at p.

@@ -9,6 +9,7 @@ use lib.Dec.{eqb}
 use lib.ListN.{length}
 use borrow.Author.Tests.{eqb-true, eq-eqb}
 use Rattle.word.specs.Copy.{copied}
+use Rattle.sum.specs.declared.Edition.{Edition}
 use Rattle.map.specs.Addresses.{enableAt}
 use Rattle.channel.specs.declared.Phase.{Phase}
 use Rattle.channel.specs.declared.Phase.the-variants.{Rest, Counting, Running, FreeRunning}
@@ -24,15 +25,15 @@ use Rattle.course.proofs.Copies.{choose, copied-length, copied-in, copi
 
 -- ---- a tick
 
-module _ (s l : List ℕ) (c : ℕ) (ch : Channel) where
-  pub tick-rest : (w : List ℕ) → ch .phase ≡ Rest → tickOf s w l c ch ≡ side ch l
+module _ (ed : Edition) (s l : List ℕ) (c : ℕ) (ch : Channel) where
+  pub tick-rest : (w : List ℕ) → ch .phase ≡ Rest → tickOf ed s w l c ch ≡ side ch l
   unfolding tickOf moveAt makeOf
   tick-rest w e = rw e
 
   abbrev SameLevel : Move → Type 0
   SameLevel x = x .channel .level ≡ ch .level
 
-  start-level : SameLevel (start s l c ch)
+  start-level : SameLevel (start ed s l c ch)
   unfolding start
   start-level = choose SameLevel (eqb (word s (enableAt c)) 1) _ _ refl refl
 
@@ -40,14 +41,14 @@ module _ (s l : List ℕ) (c : ℕ) (ch : Channel) where
   unfolding load
   load-level = refl
 
-  move-level : (f : Phase) → SameLevel (moveAt f s l c ch)
+  move-level : (f : Phase) → SameLevel (moveAt ed f s l c ch)
   unfolding moveAt countTo
   move-level Rest = refl
   move-level (Counting n older) = choose SameLevel (eqb (n .0 - 1) 0) _ _ start-level (choose SameLevel (loadsAt (n .0 - 1)) _ _ load-level refl)
   move-level (Running w) = refl
   move-level (FreeRunning w) = refl
 
-  pub tick-level : (w : List ℕ) → tickOf s w l c ch .channel .level ≡ ch .level
+  pub tick-level : (w : List ℕ) → tickOf ed s w l c ch .channel .level ≡ ch .level
   unfolding tickOf
   tick-level w = move-level (ch .phase)
 
@@ -59,21 +60,21 @@ module _ (s l : List ℕ) (c : ℕ) (ch : Channel) where
   abbrev KeptIn : Move → Type 0
   KeptIn x = Kept (side (x .channel) (x .tables))
 
-  start-kept : KeptIn (start s l c ch)
+  start-kept : KeptIn (start ed s l c ch)
   unfolding start
   start-kept = choose KeptIn (eqb (word s (enableAt c)) 1) _ _ (record { loaded = refl; tables = refl }) (record { loaded = refl; tables = refl })
 
-  count-kept : (n : ℕ) (older : Ramp) → (n ≡ 11 → ⊥) → KeptIn (countTo (n - 1) older s l c ch)
+  count-kept : (n : ℕ) (older : Ramp) → (n ≡ 11 → ⊥) → KeptIn (countTo ed (n - 1) older s l c ch)
   unfolding countTo
   count-kept n older h = go (eqb (n - 1) 0) (loadsAt (n - 1)) refl _ _ _ _
     where
       go : (a b : Bool) → loadsAt (n - 1) ≡ b → (x : Move) (p : Phase) (t : Shown) (g : Gave)
-          → KeptIn (cond a (start s l c ch) (cond b x (move (with ch p t) l g)))
+          → KeptIn (cond a (start ed s l c ch) (cond b x (move (with ch p t) l g)))
       go true b e x p t g = start-kept
       go false true e x p t g = absurd (h (omega (arith, eqb-true (n - 1) lead e)))
       go false false e x p t g = record { loaded = refl; tables = refl }
 
-  move-kept : (f : Phase) → ((n : ℕ) (older : Ramp) → f ≡ Counting (record { 0 = n }) older → n ≡ 11 → ⊥) → KeptIn (moveAt f s l c ch)
+  move-kept : (f : Phase) → ((n : ℕ) (older : Ramp) → f ≡ Counting (record { 0 = n }) older → n ≡ 11 → ⊥) → KeptIn (moveAt ed f s l c ch)
   unfolding moveAt
   move-kept Rest h = record { loaded = refl; tables = refl }
   move-kept (Counting n older) h = count-kept (n .0) older (h (n .0) older refl)
@@ -81,9 +82,9 @@ module _ (s l : List ℕ) (c : ℕ) (ch : Channel) where
   move-kept (FreeRunning w) h = record { loaded = refl; tables = refl }
 
   -- unless the countdown stands at 11, a tick changes neither what is loaded nor the tables
-  pub tick-kept : (w : List ℕ) → ((n : ℕ) (older : Ramp) → ch .phase ≡ Counting (record { 0 = n }) older → n ≡ 11 → ⊥) → Kept (tickOf s w l c ch)
+  pub tick-kept : (w : List ℕ) → ((n : ℕ) (older : Ramp) → ch .phase ≡ Counting (record { 0 = n }) older → n ≡ 11 → ⊥) → Kept (tickOf ed s w l c ch)
   unfolding tickOf
-  tick-kept w h = let k : KeptIn (moveAt (ch .phase) s l c ch) = move-kept (ch .phase) h in record { loaded = k .loaded; tables = k .tables }
+  tick-kept w h = let k : KeptIn (moveAt ed (ch .phase) s l c ch) = move-kept (ch .phase) h in record { loaded = k .loaded; tables = k .tables }
 
 -- ---- the tables changed elsewhere
 
@@ -115,10 +116,10 @@ elsewhere-is c l l′ e h = rw (eq-eqb (length l′) (length l) e) (copied-same 
 
 -- another channel's tick or trigger changes the tables elsewhere
 module _ (s l : List ℕ) (b c : ℕ) (ch : Channel) (other : b ≡ c → ⊥) where
-  pub tick-elsewhere : (w : List ℕ) → elsewhere c l (tickOf s w l b ch .tables) ≡ tickOf s w l b ch .tables
-  tick-elsewhere w =
-      elsewhere-is c l (tickOf s w l b ch .tables) (tick-length s l b ch w)
-      (λ i h. tick-out s l b ch w (firstOf c + i) (λ f g. apart b c i other h f g))
+  pub tick-elsewhere : (ed : Edition) (w : List ℕ) → elsewhere c l (tickOf ed s w l b ch .tables) ≡ tickOf ed s w l b ch .tables
+  tick-elsewhere ed w =
+      elsewhere-is c l (tickOf ed s w l b ch .tables) (tick-length ed s l b ch w)
+      (λ i h. tick-out ed s l b ch w (firstOf c + i) (λ f g. apart b c i other h f g))
 
   pub trigger-elsewhere : (level : ℕ) → elsewhere c l (triggered s l b ch level .tables) ≡ triggered s l b ch level .tables
   trigger-elsewhere level =
@@ -127,15 +128,15 @@ module _ (s l : List ℕ) (b c : ℕ) (ch : Channel) (other : b ≡ c → ⊥) w
 
 -- ---- any act
 
-pub act-length : (c : ℕ) (x : Side) (y : Act) → length (act c x y .tables) ≡ length (x .tables)
-act-length c x (Tick s w) = tick-length s (x .tables) c (x .channel) w
-act-length c x (Elsewhere l) = elsewhere-length c (x .tables) l
-act-length c x (Output v) = refl
-act-length c x Clear = refl
+pub act-length : (ed : Edition) (c : ℕ) (x : Side) (y : Act) → length (act ed c x y .tables) ≡ length (x .tables)
+act-length ed c x (Tick s w) = tick-length ed s (x .tables) c (x .channel) w
+act-length ed c x (Elsewhere l) = elsewhere-length c (x .tables) l
+act-length ed c x (Output v) = refl
+act-length ed c x Clear = refl
 
-pub run-length : (c : ℕ) (x : Side) (ys : List Act) → length (run c x ys .tables) ≡ length (x .tables)
-run-length c x [] = refl
-run-length c x (y ∷ ys) = run-length c (act c x y) ys ∙ act-length c x y
+pub run-length : (ed : Edition) (c : ℕ) (x : Side) (ys : List Act) → length (run ed c x ys .tables) ≡ length (x .tables)
+run-length ed c x [] = refl
+run-length ed c x (y ∷ ys) = run-length ed c (act ed c x y) ys ∙ act-length ed c x y
 
 -- ---- a word written to the output leaves all but output and amplitude, and is not taken while a ramp runs or free-runs
 
@@ -163,24 +164,24 @@ module _ (v : ℕ) (ch : Channel) where
 -- ---- acts without a tick
 
 -- acts without a tick leave channel c's words
-pub untimed-table : (c : ℕ) (x : Side) (ys : List Act) → ticksIn ys ≡ 0 → 128 * c + 128 ≤ length (x .tables) → SameTable (run c x ys .tables) (firstOf c) (x .tables) (firstOf c)
-untimed-table c x [] e h i f = refl
-untimed-table c x (Tick s w ∷ ys) e h i f = absurd (omega arith)
-untimed-table c x (Elsewhere l ∷ ys) e h i f =
-    untimed-table c (act c x (Elsewhere l)) ys e (rw (elsewhere-length c (x .tables) l) h) i f ∙ elsewhere-in c (x .tables) l h i f
-untimed-table c x (Output v ∷ ys) e h i f = untimed-table c (act c x (Output v)) ys e h i f
-untimed-table c x (Clear ∷ ys) e h i f = untimed-table c (act c x Clear) ys e h i f
+pub untimed-table : (ed : Edition) (c : ℕ) (x : Side) (ys : List Act) → ticksIn ys ≡ 0 → 128 * c + 128 ≤ length (x .tables) → SameTable (run ed c x ys .tables) (firstOf c) (x .tables) (firstOf c)
+untimed-table ed c x [] e h i f = refl
+untimed-table ed c x (Tick s w ∷ ys) e h i f = absurd (omega arith)
+untimed-table ed c x (Elsewhere l ∷ ys) e h i f =
+    untimed-table ed c (act ed c x (Elsewhere l)) ys e (rw (elsewhere-length c (x .tables) l) h) i f ∙ elsewhere-in c (x .tables) l h i f
+untimed-table ed c x (Output v ∷ ys) e h i f = untimed-table ed c (act ed c x (Output v)) ys e h i f
+untimed-table ed c x (Clear ∷ ys) e h i f = untimed-table ed c (act ed c x Clear) ys e h i f
 
 -- and its ramp, copy and pending level
-pub untimed-ramp : (c : ℕ) (x : Side) (ys : List Act) → ticksIn ys ≡ 0
-    → (run c x ys .channel .phase ≡ x .channel .phase) × (run c x ys .channel .loaded ≡ x .channel .loaded) × (run c x ys .channel .level ≡ x .channel .level)
-untimed-ramp c x [] e = (refl, refl, refl)
-untimed-ramp c x (Tick s w ∷ ys) e = absurd (omega arith)
-untimed-ramp c x (Elsewhere l ∷ ys) e = untimed-ramp c (act c x (Elsewhere l)) ys e
-untimed-ramp c x (Output v ∷ ys) e =
-    let r = untimed-ramp c (act c x (Output v)) ys e in
+pub untimed-ramp : (ed : Edition) (c : ℕ) (x : Side) (ys : List Act) → ticksIn ys ≡ 0
+    → (run ed c x ys .channel .phase ≡ x .channel .phase) × (run ed c x ys .channel .loaded ≡ x .channel .loaded) × (run ed c x ys .channel .level ≡ x .channel .level)
+untimed-ramp ed c x [] e = (refl, refl, refl)
+untimed-ramp ed c x (Tick s w ∷ ys) e = absurd (omega arith)
+untimed-ramp ed c x (Elsewhere l ∷ ys) e = untimed-ramp ed c (act ed c x (Elsewhere l)) ys e
+untimed-ramp ed c x (Output v ∷ ys) e =
+    let r = untimed-ramp ed c (act ed c x (Output v)) ys e in
     (r .0 ∙ written-phase v (x .channel), r .1 ∙ written-loaded v (x .channel), r .2 ∙ written-level v (x .channel))
-untimed-ramp c x (Clear ∷ ys) e = untimed-ramp c (act c x Clear) ys e
+untimed-ramp ed c x (Clear ∷ ys) e = untimed-ramp ed c (act ed c x Clear) ys e
 
 -- ---- the acts before a tick, and the settings held on it
 

@@ -5,12 +5,13 @@ use mathlib.Core.List.{List, [], _∷_, _++_}
 use Prim.Native.Nat.{ℕ, zero, suc, _+_, _≤_}
 use native.Mathlib.Omega.{arith}
 use native.Mathlib.Nat.{zero-add, suc-add}
+use Rattle.sum.specs.declared.Edition.{Edition}
 use Rattle.channel.specs.Channel.{Side}
 use Rattle.course.specs.Course.{Act, Tick, Elsewhere, Output, Clear, act, run, ticksIn, until, heldOn, wavesOn}
 
-pub run-append : (c : ℕ) (x : Side) (xs ys : List Act) → run c x (xs ++ ys) ≡ run c (run c x xs) ys
-run-append c x [] ys = refl
-run-append c x (y ∷ xs) ys = run-append c (act c x y) xs ys
+pub run-append : (ed : Edition) (c : ℕ) (x : Side) (xs ys : List Act) → run ed c x (xs ++ ys) ≡ run ed c (run ed c x xs) ys
+run-append ed c x [] ys = refl
+run-append ed c x (y ∷ xs) ys = run-append ed c (act ed c x y) xs ys
 
 pub ticks-append : (xs ys : List Act) → ticksIn (xs ++ ys) ≡ ticksIn xs + ticksIn ys
 ticks-append [] ys = omega arith

@@ -10,6 +10,7 @@ use lib.ListN.{length, set, length-set}
 use lib.Seq.{set-getD, getD-set-same, getD-set-other}
 use borrow.Author.Tests.{eqb-true, eqb-false}
 use Rattle.word.specs.Copy.{copied}
+use Rattle.sum.specs.declared.Edition.{Edition}
 use Rattle.map.specs.Addresses.{tableAt, rampMapAt, enableAt}
 use Rattle.channel.specs.declared.Phase.{Phase}
 use Rattle.channel.specs.declared.Phase.the-variants.{Rest, Counting, Running, FreeRunning}
@@ -68,38 +69,38 @@ module _ (s l : List ℕ) (c : ℕ) (ch : Channel) where
     unfolding load
     load-tables level q = q (tableAt c (word s (rampMapAt c level)))
 
-    start-tables : P (start s l c ch .tables)
+    start-tables : (ed : Edition) → P (start ed s l c ch .tables)
     unfolding start
-    start-tables = choose Moved (eqb (word s (enableAt c)) 1) _ _ p p
+    start-tables ed = choose Moved (eqb (word s (enableAt c)) 1) _ _ p p
 
-    count-tables : (m : ℕ) (older : Ramp) → ((from : ℕ) → P (copied 128 s from l (firstOf c))) → P (countTo m older s l c ch .tables)
+    count-tables : (ed : Edition) (m : ℕ) (older : Ramp) → ((from : ℕ) → P (copied 128 s from l (firstOf c))) → P (countTo ed m older s l c ch .tables)
     unfolding countTo
-    count-tables m older q = choose Moved (eqb m 0) _ _ start-tables (choose Moved (loadsAt m) _ _ (load-tables (ch .level) q) p)
+    count-tables ed m older q = choose Moved (eqb m 0) _ _ (start-tables ed) (choose Moved (loadsAt m) _ _ (load-tables (ch .level) q) p)
 
-    move-tables : (f : Phase) → ((from : ℕ) → P (copied 128 s from l (firstOf c))) → P (moveAt f s l c ch .tables)
+    move-tables : (ed : Edition) (f : Phase) → ((from : ℕ) → P (copied 128 s from l (firstOf c))) → P (moveAt ed f s l c ch .tables)
     unfolding moveAt
-    move-tables Rest q = p
-    move-tables (Counting n older) q = count-tables (n .0 - 1) older q
-    move-tables (Running w) q = p
-    move-tables (FreeRunning w) q = p
+    move-tables ed Rest q = p
+    move-tables ed (Counting n older) q = count-tables ed (n .0 - 1) older q
+    move-tables ed (Running w) q = p
+    move-tables ed (FreeRunning w) q = p
 
-    tick-tables : (w : List ℕ) → ((from : ℕ) → P (copied 128 s from l (firstOf c))) → P (tickOf s w l c ch .tables)
+    tick-tables : (ed : Edition) (w : List ℕ) → ((from : ℕ) → P (copied 128 s from l (firstOf c))) → P (tickOf ed s w l c ch .tables)
     unfolding tickOf
-    tick-tables w q = move-tables (ch .phase) q
+    tick-tables ed w q = move-tables ed (ch .phase) q
 
     trigger-tables : (level : ℕ) → ((from : ℕ) → P (copied 128 s from l (firstOf c))) → P (triggered s l c ch level .tables)
     unfolding triggered
     trigger-tables level q = choose (λ (x : Side). P (x .tables)) (loadsAt (countdown s c level)) _ _ (load-tables level q) p
 
-  pub tick-length : (w : List ℕ) → length (tickOf s w l c ch .tables) ≡ length l
-  tick-length w = tick-tables (λ x. length x ≡ length l) refl w (λ from. copied-length 128 s from l (firstOf c))
+  pub tick-length : (ed : Edition) (w : List ℕ) → length (tickOf ed s w l c ch .tables) ≡ length l
+  tick-length ed w = tick-tables ed (λ x. length x ≡ length l) refl w (λ from. copied-length 128 s from l (firstOf c))
 
   pub trigger-length : (level : ℕ) → length (triggered s l c ch level .tables) ≡ length l
   trigger-length level = trigger-tables (λ x. length x ≡ length l) refl level (λ from. copied-length 128 s from l (firstOf c))
 
   -- a word of another channel
-  pub tick-out : (w : List ℕ) (at : ℕ) → (firstOf c ≤ at → at < firstOf c + 128 → ⊥) → word (tickOf s w l c ch .tables) at ≡ word l at
-  tick-out w at o = tick-tables (λ x. word x at ≡ word l at) refl w (λ from. copied-out 128 s from l (firstOf c) at o)
+  pub tick-out : (ed : Edition) (w : List ℕ) (at : ℕ) → (firstOf c ≤ at → at < firstOf c + 128 → ⊥) → word (tickOf ed s w l c ch .tables) at ≡ word l at
+  tick-out ed w at o = tick-tables ed (λ x. word x at ≡ word l at) refl w (λ from. copied-out 128 s from l (firstOf c) at o)
 
   pub trigger-out : (level at : ℕ) → (firstOf c ≤ at → at < firstOf c + 128 → ⊥) → word (triggered s l c ch level .tables) at ≡ word l at
   trigger-out level at o = trigger-tables (λ x. word x at ≡ word l at) refl level (λ from. copied-out 128 s from l (firstOf c) at o)

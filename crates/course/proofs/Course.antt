@@ -12,6 +12,7 @@ use native.Mathlib.Numerals.{add-one}
 use lib.Dec.{leb, eqb}
 use lib.ListN.{length}
 use borrow.Author.Tests.{leb-true, leb-false, eq-eqb, ne-eqb, eqb-true, eqb-false}
+use Rattle.sum.specs.declared.Edition.{Edition}
 use Rattle.map.specs.Addresses.{tableAt, rampMapAt, enableAt}
 use Rattle.channel.specs.declared.Place.{Place}
 use Rattle.channel.specs.declared.Shown.{Shown}
@@ -35,7 +36,7 @@ use Rattle.course.proofs.Signals.{Counted, signal-counted, first-made, 
 
 -- ---- a trigger of level v sets the countdown d; the settings w are held on tick d − 10, and A00 is a on tick d
 
-module _ (c v : ℕ) (w : List ℕ) (a d : ℕ) where
+module _ (ed : Edition) (c v : ℕ) (w : List ℕ) (a d : ℕ) where
   -- the table's first word among the settings, T, and the place of sample k
   abbrev from : ℕ
   from = tableFor w c v
@@ -58,11 +59,11 @@ module _ (c v : ℕ) (w : List ℕ) (a d : ℕ) where
     -- loaded, and the start is to come
     starts : (n : ℕ) → t + n ≡ d → 1 ≤ n → n ≤ 10 → Held x → x .channel .phase ≡ Counting (record { 0 = n }) Still → Course t x
     -- sample k was the last, and the next comes in r ticks
-    runs : (k r : ℕ) → a ≡ 1 → t + r ≡ d + 10 * (k + 1) → 1 ≤ r → r ≤ 10 → k < T → Held x → Counted c v w k (x .channel .signal)
+    runs : (k r : ℕ) → a ≡ 1 → t + r ≡ d + 10 * (k + 1) → 1 ≤ r → r ≤ 10 → k < T → Held x → Counted ed c v w k (x .channel .signal)
         → x .channel .phase ≡ Running (way (spot k) r 10) → Course t x
     -- the same, the end's sample or one after it
     frees : (k r : ℕ) → a ≡ 1 → freeFor w c v ≡ true → t + r ≡ d + 10 * (k + 1) → 1 ≤ r → r ≤ 10 → T ≤ k → Held x
-        → Counted c v w k (x .channel .signal) → x .channel .phase ≡ FreeRunning (way (spot T) r 10) → Course t x
+        → Counted ed c v w k (x .channel .signal) → x .channel .phase ≡ FreeRunning (way (spot T) r 10) → Course t x
     -- the end was reached
     rests : a ≡ 1 → freeFor w c v ≡ false → d + 10 * T ≤ t → Held x → x .channel .phase ≡ Rest → Course t x
     -- nothing started
@@ -70,17 +71,17 @@ module _ (c v : ℕ) (w : List ℕ) (a d : ℕ) where
 
   -- the channel after a tick under the settings z, with the wave tables u
   abbrev pub next-tick : List ℕ → List ℕ → Side → Side
-  next-tick z u x = tickOf z u (x .tables) c (x .channel)
+  next-tick z u x = tickOf ed z u (x .tables) c (x .channel)
 
   -- what the tick after t ticks does
   pub record Ticked (t : ℕ) (z u : List ℕ) (x : Side) : Type 0 where
     pub course : Course (t + 1) (next-tick z u x)
     pub aborted : t + 11 ≡ d → next-tick z u x .channel .shown ≡ blank (x .channel .shown)
     pub held : t + 11 ≡ d → next-tick z u x .channel .signal ≡ x .channel .signal
-    pub sample : a ≡ 1 → (k : ℕ) → k ≤ T → t + 1 ≡ d + 10 * k → next-tick z u x .channel .shown ≡ sampleFor w c v k (x .channel .shown)
+    pub sample : a ≡ 1 → (k : ℕ) → k ≤ T → t + 1 ≡ d + 10 * k → next-tick z u x .channel .shown ≡ sampleFor ed w c v k (x .channel .shown)
     pub silent : d ≤ t + 10 → (a ≡ 1 → (k : ℕ) → k ≤ T → t + 1 ≡ d + 10 * k → ⊥) → next-tick z u x .channel .shown ≡ x .channel .shown
     pub made : a ≡ 1 → (k : ℕ) → Plays w c v k → t + 1 ≡ d + 10 * k
-        → next-tick z u x .channel .signal ≡ signalFor u w c v k (next-tick z u x .channel .shown .amplitude) (x .channel .signal)
+        → next-tick z u x .channel .signal ≡ signalFor ed u w c v k (next-tick z u x .channel .shown .amplitude) (x .channel .signal)
     pub still : d ≤ t + 10 → (a ≡ 1 → (k : ℕ) → Plays w c v k → t + 1 ≡ d + 10 * k → ⊥) → next-tick z u x .channel .signal ≡ x .channel .signal
 
   -- the same copy, another phase, another ramp value and another signal
@@ -96,10 +97,10 @@ module _ (c v : ℕ) (w : List ℕ) (a d : ℕ) where
   -- the channel once sample k is given
   abbrev sampled-at : ℕ → List ℕ → Side → Side
   sampled-at k u x =
-      let s : Shown = sampleFor w c v k (x .channel .shown) in
-      side (withSignal (with (x .channel) (past k) s) (signalFor u w c v k (s .amplitude) (x .channel .signal))) (x .tables)
+      let s : Shown = sampleFor ed w c v k (x .channel .shown) in
+      side (withSignal (with (x .channel) (past k) s) (signalFor ed u w c v k (s .amplitude) (x .channel .signal))) (x .tables)
 
-  gave : (k t : ℕ) (x : Side) → a ≡ 1 → k ≤ T → t ≡ d + 10 * k → Held x → Counted c v w k (x .channel .signal) → x .channel .phase ≡ past k → Course t x
+  gave : (k t : ℕ) (x : Side) → a ≡ 1 → k ≤ T → t ≡ d + 10 * k → Held x → Counted ed c v w k (x .channel .signal) → x .channel .phase ≡ past k → Course t x
   unfolding ended
   gave k t x y h q e n f = go (leb T k) refl (freeFor w c v) refl
     where
@@ -118,7 +119,7 @@ module _ (c v : ℕ) (w : List ℕ) (a d : ℕ) where
   sampled : (k t : ℕ) (z u : List ℕ) (x : Side) → a ≡ 1 → k ≤ T → t + 1 ≡ d + 10 * k → Held x → next-tick z u x ≡ sampled-at k u x → Ticked t z u x
   sampled k t z u x y h q e o =
       record {
-        course = rw o (gave k (t + 1) (sampled-at k u x) y h q (held-with x _ _ _ e) (signal-counted c v w u _ (x .channel .signal) k) refl);
+        course = rw o (gave k (t + 1) (sampled-at k u x) y h q (held-with x _ _ _ e) (signal-counted ed c v w u _ (x .channel .signal) k) refl);
         aborted = λ b. absurd (omega arith);
         held = λ b. absurd (omega arith);
         sample = λ b j i g. let kj : k ≡ j = omega arith in rw (← kj) (ap (λ (n : Side). n .channel .shown) o);
@@ -147,26 +148,26 @@ module _ (c v : ℕ) (w : List ℕ) (a d : ℕ) where
   unfolding given
   first-given z u x n h f g e =
       rw (
-        tick-made z (x .tables) c (x .channel) u _ (move-start z (x .tables) c (x .channel) n Still f g e),
+        tick-made ed z (x .tables) c (x .channel) u _ (move-start ed z (x .tables) c (x .channel) n Still f g e),
         h .loaded,
         same-enter (x .tables) (firstOf c) w from (h .table) 0 (omega arith),
         place-first w from,
-        same-sample (x .tables) (firstOf c) w from (h .table) (loadedFor w c v) (spot 0) (placed w from 0),
-        first-made c v w u _ (x .channel .signal),
+        same-sample ed (x .tables) (firstOf c) w from (h .table) (loadedFor w c v) (spot 0) (placed w from 0),
+        first-made ed c v w u _ (x .channel .signal),
       )
 
-  next-given : (z u : List ℕ) (x : Side) (k r : ℕ) → Held x → Counted c v w k (x .channel .signal) → x .channel .phase ≡ Running (way (spot k) r 10)
+  next-given : (z u : List ℕ) (x : Side) (k r : ℕ) → Held x → Counted ed c v w k (x .channel .signal) → x .channel .phase ≡ Running (way (spot k) r 10)
       → r ≤ 1 → k < T → next-tick z u x ≡ sampled-at (k + 1) u x
   unfolding given
   next-given z u x k r h n f g i =
       rw (
-        tick-made z (x .tables) c (x .channel) u _ (move-give z (x .tables) c (x .channel) (spot k) r f g),
+        tick-made ed z (x .tables) c (x .channel) u _ (move-give ed z (x .tables) c (x .channel) (spot k) r f g),
         h .loaded,
         same-next (x .tables) (firstOf c) w from (h .table) (spot k)
             (placed w from k .inner (place-more w from k i)),
         place-step w from k i,
-        same-sample (x .tables) (firstOf c) w from (h .table) (loadedFor w c v) (spot (k + 1)) (placed w from (k + 1)),
-        next-made c v w u _ (x .channel .signal) k i n,
+        same-sample ed (x .tables) (firstOf c) w from (h .table) (loadedFor w c v) (spot (k + 1)) (placed w from (k + 1)),
+        next-made ed c v w u _ (x .channel .signal) k i n,
       )
 
   -- ---- a sample of the free run
@@ -174,16 +175,16 @@ module _ (c v : ℕ) (w : List ℕ) (a d : ℕ) where
   abbrev free-at : ℕ → List ℕ → Side → Side
   free-at k u x =
       side
-      (withSignal (with (x .channel) (FreeRunning (way (spot T) 10 10)) (x .channel .shown)) (signalFor u w c v k (x .channel .shown .amplitude) (x .channel .signal)))
+      (withSignal (with (x .channel) (FreeRunning (way (spot T) 10 10)) (x .channel .shown)) (signalFor ed u w c v k (x .channel .shown .amplitude) (x .channel .signal)))
       (x .tables)
 
-  free-given : (z u : List ℕ) (x : Side) (k r : ℕ) → Held x → Counted c v w k (x .channel .signal) → x .channel .phase ≡ FreeRunning (way (spot T) r 10)
+  free-given : (z u : List ℕ) (x : Side) (k r : ℕ) → Held x → Counted ed c v w k (x .channel .signal) → x .channel .phase ≡ FreeRunning (way (spot T) r 10)
       → r ≤ 1 → T ≤ k → freeFor w c v ≡ true → next-tick z u x ≡ free-at (k + 1) u x
   free-given z u x k r h n f g i e =
       rw (
-        tick-made z (x .tables) c (x .channel) u _ (free-give z (x .tables) c (x .channel) (spot T) r f g),
+        tick-made ed z (x .tables) c (x .channel) u _ (free-give ed z (x .tables) c (x .channel) (spot T) r f g),
         h .loaded,
-        free-made c v w u (x .channel .shown .amplitude) (x .channel .signal) k i e n,
+        free-made ed c v w u (x .channel .shown .amplitude) (x .channel .signal) k i e n,
       )
 
   free-sampled : (k t : ℕ) (z u : List ℕ) (x : Side) → a ≡ 1 → freeFor w c v ≡ true → T < k → t + 1 ≡ d + 10 * k → Held x
@@ -193,7 +194,7 @@ module _ (c v : ℕ) (w : List ℕ) (a d : ℕ) where
         course =
             rw o
             (frees k 10 y m (omega arith) (omega arith) (omega arith) (omega arith) (held-with x _ _ _ e)
-            (signal-counted c v w u (x .channel .shown .amplitude) (x .channel .signal) k) refl);
+            (signal-counted ed c v w u (x .channel .shown .amplitude) (x .channel .signal) k) refl);
         aborted = λ b. absurd (omega arith);
         held = λ b. absurd (omega arith);
         sample = λ b j i g. absurd (omega arith);
@@ -234,16 +235,16 @@ module _ (c v : ℕ) (w : List ℕ) (a d : ℕ) where
   pub ticked : (t : ℕ) (z u : List ℕ) (x : Side) → 128 * c + 128 ≤ length (x .tables) → (t + 11 ≡ d → z ≡ w) → (t + 1 ≡ d → word z (enableAt c) ≡ a)
       → Course t x → Ticked t z u x
   ticked t z u x m lo en (off y h e f) =
-      unsampled t z u x x (omega arith) (tick-rest z (x .tables) c (x .channel) u f) refl refl (off y (omega arith) e f) (λ i k j o. y i)
+      unsampled t z u x x (omega arith) (tick-rest ed z (x .tables) c (x .channel) u f) refl refl (off y (omega arith) e f) (λ i k j o. y i)
   ticked t z u x m lo en (rests y i h e f) =
-      unsampled t z u x x (omega arith) (tick-rest z (x .tables) c (x .channel) u f) refl refl (rests y i (omega arith) e f) (λ b k j o. no-more t k i h j o)
+      unsampled t z u x x (omega arith) (tick-rest ed z (x .tables) c (x .channel) u f) refl refl (rests y i (omega arith) e f) (λ b k j o. no-more t k i h j o)
   ticked t z u x m lo en (runs k r y q p b h e n f) = go (leb r 1) refl
     where
       go : (i : Bool) → leb r 1 ≡ i → Ticked t z u x
       go true g = sampled (k + 1) t z u x y (omega arith) (omega (arith, leb-true)) e (next-given z u x k r e n f (omega (arith, leb-true)) h)
       go false g =
           let r1 : 1 < r = omega (arith, leb-false) in
-          unsampled t z u x _ (omega arith) (tick-wait z (x .tables) c (x .channel) u (spot k) r f r1) refl refl
+          unsampled t z u x _ (omega arith) (tick-wait ed z (x .tables) c (x .channel) u (spot k) r f r1) refl refl
           (runs k (r - 1) y (omega arith) (omega arith) (omega arith) h (held-with x _ _ _ e) n refl)
           (λ i j o s. omega arith)
   ticked t z u x m lo en (frees k r y i q p b h e n f) = go (leb r 1) refl
@@ -252,7 +253,7 @@ module _ (c v : ℕ) (w : List ℕ) (a d : ℕ) where
       go true g = free-sampled (k + 1) t z u x y i (omega arith) (omega (arith, leb-true)) e (free-given z u x k r e n f (omega (arith, leb-true)) h i)
       go false g =
           let r1 : 1 < r = omega (arith, leb-false) in
-          unsampled t z u x _ (omega arith) (tick-free-wait z (x .tables) c (x .channel) u (spot T) r f r1) refl refl
+          unsampled t z u x _ (omega arith) (tick-free-wait ed z (x .tables) c (x .channel) u (spot T) r f r1) refl refl
           (frees k (r - 1) y i (omega arith) (omega arith) (omega arith) h (held-with x _ _ _ e) n refl)
           (λ l j o s. omega arith)
   ticked t z u x m lo en (starts n q p b e f) = go (leb n 1) refl (eqb a 1) refl
@@ -264,12 +265,12 @@ module _ (c v : ℕ) (w : List ℕ) (a d : ℕ) where
       go true g false y =
           let no : a ≡ 1 → ⊥ = eqb-false a 1 y in
           unsampled t z u x _ (omega arith)
-          (tick-off z (x .tables) c (x .channel) u n Still f (omega (arith, leb-true)) (λ i. no (sym (en (omega (arith, leb-true))) ∙ i))) refl refl
+          (tick-off ed z (x .tables) c (x .channel) u n Still f (omega (arith, leb-true)) (λ i. no (sym (en (omega (arith, leb-true))) ∙ i))) refl refl
           (off no (omega (arith, leb-true)) (held-with x _ _ _ e) refl)
           (λ i j k o. no i)
       go false g j y =
           let n1 : 1 < n = omega (arith, leb-false) in
-          unsampled t z u x _ (omega arith) (tick-still z (x .tables) c (x .channel) u n f n1 (λ i. absurd (omega arith))) refl refl
+          unsampled t z u x _ (omega arith) (tick-still ed z (x .tables) c (x .channel) u n f n1 (λ i. absurd (omega arith))) refl refl
           (starts (n - 1) (omega arith) (omega arith) (omega arith) (held-with x _ _ _ e) refl)
           (λ i j k o. omega arith)
   ticked t z u x m lo en (waits n o q p e f) = go (leb n 11) refl
@@ -290,11 +291,11 @@ module _ (c v : ℕ) (w : List ℕ) (a d : ℕ) where
       go : (i : Bool) → leb n 11 ≡ i → Ticked t z u x
       go true g =
           let n1 : n ≡ 11 = omega (arith, leb-true) in
-          let y : next-tick z u x ≡ load w (x .tables) c (x .channel) v = tick-load z (x .tables) c (x .channel) u n o f n1 ∙ rw (e, lo (omega arith)) in
+          let y : next-tick z u x ≡ load w (x .tables) c (x .channel) v = tick-load ed z (x .tables) c (x .channel) u n o f n1 ∙ rw (e, lo (omega arith)) in
           early (λ i. rw y (load-shown x)) (λ i. rw y (load-signal x)) (rw y (starts 10 (omega arith) (omega arith) (omega arith) (loads x m) (load-phase x)))
       go false g =
           let n1 : 11 < n = omega (arith, leb-false) in
-          let y = tick-count z (x .tables) c (x .channel) u n o f n1 in
+          let y = tick-count ed z (x .tables) c (x .channel) u n o f n1 in
           early (λ i. absurd (omega arith)) (λ i. absurd (omega arith)) (rw (y .3) (waits (n - 1) (y .0) (omega arith) (omega arith) e refl))
 
   -- ---- between the ticks
@@ -307,7 +308,7 @@ module _ (c v : ℕ) (w : List ℕ) (a d : ℕ) where
       same : Held x → Held x′
       same h = record { loaded = p ∙ h .loaded; table = λ n g. s n g ∙ h .table n g }
 
-      as-counted : (k : ℕ) → Counted c v w k (x .channel .signal) → Counted c v w k (x′ .channel .signal)
+      as-counted : (k : ℕ) → Counted ed c v w k (x .channel .signal) → Counted ed c v w k (x′ .channel .signal)
       as-counted k n e = j ∙ n e
 
       go : Course t x → Course t x′
@@ -318,16 +319,16 @@ module _ (c v : ℕ) (w : List ℕ) (a d : ℕ) where
       go (rests y m h e f) = rests y m h (same e) (q ∙ f)
       go (off y h e f) = off y h (same e) (q ∙ f)
 
-  pub beside-elsewhere : (t : ℕ) (x : Side) (l : List ℕ) → 128 * c + 128 ≤ length (x .tables) → Course t x → Course t (act c x (Elsewhere l))
-  beside-elsewhere t x l m y = kept t x (act c x (Elsewhere l)) refl refl refl refl (elsewhere-in c (x .tables) l m) y
+  pub beside-elsewhere : (t : ℕ) (x : Side) (l : List ℕ) → 128 * c + 128 ≤ length (x .tables) → Course t x → Course t (act ed c x (Elsewhere l))
+  beside-elsewhere t x l m y = kept t x (act ed c x (Elsewhere l)) refl refl refl refl (elsewhere-in c (x .tables) l m) y
 
-  pub beside-output : (t : ℕ) (x : Side) (o : ℕ) → Course t x → Course t (act c x (Output o))
+  pub beside-output : (t : ℕ) (x : Side) (o : ℕ) → Course t x → Course t (act ed c x (Output o))
   beside-output t x o y =
-      kept t x (act c x (Output o)) (written-level o (x .channel)) (written-loaded o (x .channel)) (written-phase o (x .channel))
+      kept t x (act ed c x (Output o)) (written-level o (x .channel)) (written-loaded o (x .channel)) (written-phase o (x .channel))
       (written-counter o (x .channel)) (λ i h. refl) y
 
-  pub beside-clear : (t : ℕ) (x : Side) → Course t x → Course t (act c x Clear)
-  beside-clear t x y = kept t x (act c x Clear) refl refl refl refl (λ i h. refl) y
+  pub beside-clear : (t : ℕ) (x : Side) → Course t x → Course t (act ed c x Clear)
+  beside-clear t x y = kept t x (act ed c x Clear) refl refl refl refl (λ i h. refl) y
 
   -- ---- any acts
 
@@ -337,14 +338,14 @@ module _ (c v : ℕ) (w : List ℕ) (a d : ℕ) where
     pub enabled : (n : ℕ) → t + suc n ≡ d → word (heldOn s z (suc n) xs) (enableAt c) ≡ a
 
   pub course-run : (t : ℕ) (s z : List ℕ) (x : Side) (xs : List Act) → 128 * c + 128 ≤ length (x .tables) → Ahead t s z xs → Course t x
-      → Course (t + ticksIn xs) (run c x xs)
+      → Course (t + ticksIn xs) (run ed c x xs)
   course-run t s z x [] m h y = rw add-zero y
   course-run t s z x (Tick o u ∷ xs) m h y =
       rw (add-suc, ← suc-add, ← add-one)
-      (course-run (t + 1) s z (act c x (Tick o u)) xs (rw (act-length c x (Tick o u)) m)
+      (course-run (t + 1) s z (act ed c x (Tick o u)) xs (rw (act-length ed c x (Tick o u)) m)
       (record { loads = λ n q. h .loads (suc n) (omega arith); enabled = λ n q. h .enabled (suc n) (omega arith) })
       (ticked t o u x m (λ q. h .loads 0 (omega arith)) (λ q. h .enabled 0 (omega arith)) y .course))
   course-run t s z x (Elsewhere l ∷ xs) m h y =
-      course-run t s z (act c x (Elsewhere l)) xs (rw (act-length c x (Elsewhere l)) m) (record { loads = h .loads; enabled = h .enabled }) (beside-elsewhere t x l m y)
-  course-run t s z x (Output o ∷ xs) m h y = course-run t s z (act c x (Output o)) xs m (record { loads = h .loads; enabled = h .enabled }) (beside-output t x o y)
-  course-run t s z x (Clear ∷ xs) m h y = course-run t s z (act c x Clear) xs m (record { loads = h .loads; enabled = h .enabled }) (beside-clear t x y)
+      course-run t s z (act ed c x (Elsewhere l)) xs (rw (act-length ed c x (Elsewhere l)) m) (record { loads = h .loads; enabled = h .enabled }) (beside-elsewhere t x l m y)
+  course-run t s z x (Output o ∷ xs) m h y = course-run t s z (act ed c x (Output o)) xs m (record { loads = h .loads; enabled = h .enabled }) (beside-output t x o y)
+  course-run t s z x (Clear ∷ xs) m h y = course-run t s z (act ed c x Clear) xs m (record { loads = h .loads; enabled = h .enabled }) (beside-clear t x y)

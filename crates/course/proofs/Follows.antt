@@ -9,6 +9,7 @@ use native.Mathlib.Nat.{zero-add}
 use lib.Dec.{leb}
 use lib.ListN.{length}
 use borrow.Author.Tests.{leb-true, leb-false}
+use Rattle.sum.specs.declared.Edition.{Edition}
 use Rattle.map.specs.Addresses.{delayAt, enableAt}
 use Rattle.channel.specs.declared.Channel.{Channel}
 use Rattle.channel.specs.declared.Ramp.the-variants.{Still}
@@ -24,11 +25,11 @@ use Rattle.course.proofs.Points.{differ}
 use Rattle.course.proofs.Course.{Held, Course, waits, starts, runs, frees, rests, off, Ahead, Ticked, loads, load-phase, ticked, course-run}
 
 -- a load sets the course, 10 ticks before the start
-load-starts : (c v : ℕ) (s : List ℕ) (a : ℕ) (l : List ℕ) (ch : Channel) → 128 * c + 128 ≤ length l → Course c v s a 10 0 (load s l c ch v)
-load-starts c v s a l ch m =
-    starts 10 (omega arith) (omega arith) (omega arith) (loads c v s a 10 (side ch l) m) (load-phase c v s a 10 (side ch l))
+load-starts : (ed : Edition) (c v : ℕ) (s : List ℕ) (a : ℕ) (l : List ℕ) (ch : Channel) → 128 * c + 128 ≤ length l → Course ed c v s a 10 0 (load s l c ch v)
+load-starts ed c v s a l ch m =
+    starts 10 (omega arith) (omega arith) (omega arith) (loads ed c v s a 10 (side ch l) m) (load-phase ed c v s a 10 (side ch l))
 
-module _ (s l : List ℕ) (c : ℕ) (ch : Channel) (v : ℕ) (room : 128 * c + 128 ≤ length l) (xs : List Act) (z : List ℕ) where
+module _ (ed : Edition) (s l : List ℕ) (c : ℕ) (ch : Channel) (v : ℕ) (room : 128 * c + 128 ≤ length l) (xs : List Act) (z : List ℕ) where
   abbrev d : ℕ
   d = countdown s c v
 
@@ -40,40 +41,40 @@ module _ (s l : List ℕ) (c : ℕ) (ch : Channel) (v : ℕ) (room : 128 * c + 1
   a = word (heldOn s z d xs) (enableAt c)
 
   abbrev now : Side
-  now = run c (triggered s l c ch v) xs
+  now = run ed c (triggered s l c ch v) xs
 
   -- a trigger sets the course
-  pub course-trigger : (e : ℕ) → Course c v w e d 0 (triggered s l c ch v)
+  pub course-trigger : (e : ℕ) → Course ed c v w e d 0 (triggered s l c ch v)
   course-trigger e = go (leb (word s (delayAt c v)) 10) refl
     where
-      go : (b : Bool) → leb (word s (delayAt c v)) 10 ≡ b → Course c v w e d 0 (triggered s l c ch v)
+      go : (b : Bool) → leb (word s (delayAt c v)) 10 ≡ b → Course ed c v w e d 0 (triggered s l c ch v)
       go true q =
           let h : word s (delayAt c v) ≤ 10 = omega (arith, leb-true) in
           let d10 : countdown s c v ≡ 10 = omega arith in
-          rw (counts.at-once s l c ch v h, d10) (load-starts c v s e l ch room)
+          rw (counts.at-once ed s l c ch v h, d10) (load-starts ed c v s e l ch room)
       go false q =
           let h : 10 < word s (delayAt c v) = omega (arith, leb-false) in
-          rw (counts.later s l c ch v h) (waits (word s (delayAt c v)) (rampOf (ch .phase)) (omega arith) h refl refl)
+          rw (counts.later ed s l c ch v h) (waits (word s (delayAt c v)) (rampOf (ch .phase)) (omega arith) h refl refl)
 
-  pub ahead : Ahead c v w a d 0 s z xs
+  pub ahead : Ahead ed c v w a d 0 s z xs
   ahead =
       record {
-        loads = λ n q. let e : d - 10 ≡ suc n = omega arith in rw e;
+        loads ed = λ n q. let e : d - 10 ≡ suc n = omega arith in rw e;
         enabled = λ n q. let e : d ≡ suc n = omega arith in rw e;
       }
 
-  pub course-now : Course c v w a d (ticksIn xs) now
-  course-now = rw zero-add at (course-run c v w a d 0 s z (triggered s l c ch v) xs (rw (trigger-length s l c ch v) room) ahead (course-trigger a))
+  pub course-now : Course ed c v w a d (ticksIn xs) now
+  course-now = rw zero-add at (course-run ed c v w a d 0 s z (triggered s l c ch v) xs (rw (trigger-length s l c ch v) room) ahead (course-trigger a))
 
-  pub tick-now : (u : List ℕ) → Ticked c v w a d (ticksIn xs) z u now
+  pub tick-now : (u : List ℕ) → Ticked ed c v w a d (ticksIn xs) z u now
   tick-now u =
-      ticked c v w a d (ticksIn xs) z u now
-      (rw (run-length c (triggered s l c ch v) xs, trigger-length s l c ch v) room)
+      ticked ed c v w a d (ticksIn xs) z u now
+      (rw (run-length ed c (triggered s l c ch v) xs, trigger-length s l c ch v) room)
       (λ q. let e : d - 10 ≡ suc (ticksIn xs) = omega arith in rw (e, held-next s z (ticksIn xs) xs (omega arith)))
       (λ q. let e : d ≡ suc (ticksIn xs) = omega arith in rw (e, held-next s z (ticksIn xs) xs (omega arith)))
       course-now
 
-  held-of : d ≤ ticksIn xs + 10 → (x : Side) → Course c v w a d (ticksIn xs) x → Held c v w a d x
+  held-of : d ≤ ticksIn xs + 10 → (x : Side) → Course ed c v w a d (ticksIn xs) x → Held ed c v w a d x
   held-of h x (waits n o q p e f) = absurd (omega arith)
   held-of h x (starts n q p b e f) = e
   held-of h x (runs k r y q p b g e n f) = e
@@ -81,7 +82,7 @@ module _ (s l : List ℕ) (c : ℕ) (ch : Channel) (v : ℕ) (room : 128 * c + 1
   held-of h x (rests y m g e f) = e
   held-of h x (off y g e f) = e
 
-  count-of : d ≤ ticksIn xs + 10 → (n : ℕ) → 1 ≤ n → ticksIn xs + n ≡ d → (x : Side) → Course c v w a d (ticksIn xs) x
+  count-of : d ≤ ticksIn xs + 10 → (n : ℕ) → 1 ≤ n → ticksIn xs + n ≡ d → (x : Side) → Course ed c v w a d (ticksIn xs) x
       → x .channel .phase ≡ Counting (record { 0 = n }) Still
   count-of h n g u x (waits m o q p e f) = absurd (omega arith)
   count-of h n g u x (starts m q p b e f) = let nm : n ≡ m = omega arith in rw nm f
@@ -91,7 +92,7 @@ module _ (s l : List ℕ) (c : ℕ) (ch : Channel) (v : ℕ) (room : 128 * c + 1
   count-of h n g u x (off y i e f) = absurd (omega arith)
 
   run-of : a ≡ 1 → (k j : ℕ) → k < totalFor w c v → j < 10 → ticksIn xs ≡ d + 10 * k + j
-      → (x : Side) → Course c v w a d (ticksIn xs) x → x .channel .phase ≡ Running (way (placeFor w c v k) (10 - j) 10)
+      → (x : Side) → Course ed c v w a d (ticksIn xs) x → x .channel .phase ≡ Running (way (placeFor w c v k) (10 - j) 10)
   run-of y k j h g u x (waits n o q p e f) = absurd (omega arith)
   run-of y k j h g u x (starts n q p b e f) = absurd (omega arith)
   run-of y k j h g u x (runs i r t q p b m e n f) =
@@ -102,7 +103,7 @@ module _ (s l : List ℕ) (c : ℕ) (ch : Channel) (v : ℕ) (room : 128 * c + 1
   run-of y k j h g u x (rests t o m e f) = absurd (omega arith)
   run-of y k j h g u x (off t m e f) = absurd (t y)
 
-  rest-of : a ≡ 1 → freeFor w c v ≡ false → d + 10 * totalFor w c v ≤ ticksIn xs → (x : Side) → Course c v w a d (ticksIn xs) x → x .channel .phase ≡ Rest
+  rest-of : a ≡ 1 → freeFor w c v ≡ false → d + 10 * totalFor w c v ≤ ticksIn xs → (x : Side) → Course ed c v w a d (ticksIn xs) x → x .channel .phase ≡ Rest
   rest-of y i h x (waits n o q p e f) = absurd (omega arith)
   rest-of y i h x (starts n q p b e f) = absurd (omega arith)
   rest-of y i h x (runs k r t q p b g e n f) = absurd (omega arith)
@@ -111,7 +112,7 @@ module _ (s l : List ℕ) (c : ℕ) (ch : Channel) (v : ℕ) (room : 128 * c + 1
   rest-of y i h x (off t g e f) = f
 
   free-of : a ≡ 1 → freeFor w c v ≡ true → (k j : ℕ) → totalFor w c v ≤ k → j < 10 → ticksIn xs ≡ d + 10 * k + j
-      → (x : Side) → Course c v w a d (ticksIn xs) x → x .channel .phase ≡ FreeRunning (way (placeFor w c v (totalFor w c v)) (10 - j) 10)
+      → (x : Side) → Course ed c v w a d (ticksIn xs) x → x .channel .phase ≡ FreeRunning (way (placeFor w c v (totalFor w c v)) (10 - j) 10)
   free-of y i k j h g u x (waits n o q p e f) = absurd (omega arith)
   free-of y i k j h g u x (starts n q p b e f) = absurd (omega arith)
   free-of y i k j h g u x (runs m r t q p b o e n f) = absurd (omega arith)
@@ -119,7 +120,7 @@ module _ (s l : List ℕ) (c : ℕ) (ch : Channel) (v : ℕ) (room : 128 * c + 1
   free-of y i k j h g u x (rests t o m e f) = absurd (differ (freeFor w c v) i o)
   free-of y i k j h g u x (off t m e f) = absurd (t y)
 
-  off-of : (a ≡ 1 → ⊥) → d ≤ ticksIn xs → (x : Side) → Course c v w a d (ticksIn xs) x → x .channel .phase ≡ Rest
+  off-of : (a ≡ 1 → ⊥) → d ≤ ticksIn xs → (x : Side) → Course ed c v w a d (ticksIn xs) x → x .channel .phase ≡ Rest
   off-of y h x (waits n o q p e f) = absurd (omega arith)
   off-of y h x (starts n q p b e f) = absurd (omega arith)
   off-of y h x (runs k r t q p b g e n f) = absurd (y t)
@@ -127,7 +128,7 @@ module _ (s l : List ℕ) (c : ℕ) (ch : Channel) (v : ℕ) (room : 128 * c + 1
   off-of y h x (rests t o g e f) = f
   off-of y h x (off t g e f) = f
 
-  follows : (u : List ℕ) → Follows c v d w a (ticksIn xs) u now (act c now (Tick z u))
+  follows : (u : List ℕ) → Follows ed c v d w a (ticksIn xs) u now (act ed c now (Tick z u))
   follows u =
       record {
         loaded = λ h. held-of h now course-now .loaded;
@@ -148,4 +149,4 @@ module _ (s l : List ℕ) (c : ℕ) (ch : Channel) (v : ℕ) (room : 128 * c + 1
 -- Demand 3 of one channel
 pub trigger-followed : TriggerFollowed
 unfolding TriggerFollowed
-trigger-followed s l c ch level room xs z w = follows s l c ch level room xs z w
+trigger-followed ed s l c ch level room xs z w = follows ed s l c ch level room xs z w

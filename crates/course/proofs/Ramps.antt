@@ -9,6 +9,7 @@ use lib.Dec.{ltb, eqb}
 use lib.ListN.{length, getD}
 use borrow.Author.Tests.{ltb-true, ltb-false, lt-leb, ne-eqb}
 use Rattle.word.specs.Table.{valueAt, stepAt, isEnd}
+use Rattle.sum.specs.declared.Edition.{Edition}
 use Rattle.sum.specs.declared.Sum.{Sum}
 use Rattle.sum.specs.declared.Sum.the-variants.{Overflow}
 use Rattle.sum.specs.Sample.{sampleOf}
@@ -39,19 +40,19 @@ downTo-length at (suc m) rest = ap suc (downTo-length at m rest) ∙ omega arith
 end-step : (n step : ℕ) → n < 63 → isEnd n step ≡ eqb step 0
 end-step n step h = rw (lt-leb 63 n h)
 
-module _ (w : List ℕ) (first : ℕ) (l : Loaded) where
+module _ (ed : Edition) (w : List ℕ) (first : ℕ) (l : Loaded) where
   -- from point n on, with f points after it
   abbrev from : ℕ → ℕ → List Sum
-  from f n = rampFrom (l .scale) (l .offset) (pointAt w first n) (pointsAfter w first f n)
+  from f n = rampFrom ed (l .scale) (l .offset) (pointAt w first n) (pointsAfter w first f n)
 
   abbrev along : ℕ → ℕ → Sum
-  along n m = sampleOf (l .scale) (valueAt w first n) (valueAt w first (n + 1)) (stepAt w first n) m (l .offset)
+  along n m = sampleOf ed (l .scale) (valueAt w first n) (valueAt w first (n + 1)) (stepAt w first n) m (l .offset)
 
-  sample-end : (n : ℕ) → sampleOf (l .scale) (valueAt w first n) (valueAt w first n) 0 0 (l .offset) ≡ sampleAt w first l (place n 0)
+  sample-end : (n : ℕ) → sampleOf ed (l .scale) (valueAt w first n) (valueAt w first n) 0 0 (l .offset) ≡ sampleAt ed w first l (place n 0)
   unfolding sampleAt
   sample-end n = refl
 
-  sample-along : (n m : ℕ) → 1 ≤ m → along n m ≡ sampleAt w first l (place n m)
+  sample-along : (n m : ℕ) → 1 ≤ m → along n m ≡ sampleAt ed w first l (place n m)
   unfolding sampleAt
   sample-along n m h = rw (ne-eqb m 0 (λ e. absurd (omega arith)))
 
@@ -65,12 +66,12 @@ module _ (w : List ℕ) (first : ℕ) (l : Loaded) where
   many-from (suc f) n h = rw (end-step n (stepAt w first n) (omega arith)) (go (eqb (stepAt w first n) 0) (many-from f (n + 1) (omega arith)))
     where
       go : (b : Bool) → length (from f (n + 1)) ≡ to-come w first f (n + 1) + 1
-          → length (cond b (ending (l .scale) (l .offset) (pointAt w first n)) (downTo (along n) (stepAt w first n) (from f (n + 1))))
+          → length (cond b (ending ed (l .scale) (l .offset) (pointAt w first n)) (downTo (along n) (stepAt w first n) (from f (n + 1))))
           ≡ cond b 0 (stepAt w first n + to-come w first f (n + 1)) + 1
       go true e = refl
       go false e = downTo-length (along n) (stepAt w first n) (from f (n + 1)) ∙ omega arith
 
-  each-from : (f n k : ℕ) → f + n ≡ 63 → k ≤ to-come w first f n → getD (from f n) k Overflow ≡ sampleAt w first l (placeFrom w first f n k)
+  each-from : (f n k : ℕ) → f + n ≡ 63 → k ≤ to-come w first f n → getD (from f n) k Overflow ≡ sampleAt ed w first l (placeFrom w first f n k)
   each-from zero n k h g = let k0 : k ≡ 0 = omega arith in rw k0 (sample-end n)
   each-from (suc f) n k h g =
       rw (end-step n (stepAt w first n) (omega arith))
@@ -80,9 +81,9 @@ module _ (w : List ℕ) (first : ℕ) (l : Loaded) where
     where
       go : (b d : Bool) → ltb k (stepAt w first n) ≡ d → k ≤ cond b 0 (stepAt w first n + to-come w first f (n + 1))
           → (k - stepAt w first n ≤ to-come w first f (n + 1)
-          → getD (from f (n + 1)) (k - stepAt w first n) Overflow ≡ sampleAt w first l (placeFrom w first f (n + 1) (k - stepAt w first n)))
-          → getD (cond b (ending (l .scale) (l .offset) (pointAt w first n)) (downTo (along n) (stepAt w first n) (from f (n + 1)))) k Overflow
-          ≡ sampleAt w first l
+          → getD (from f (n + 1)) (k - stepAt w first n) Overflow ≡ sampleAt ed w first l (placeFrom w first f (n + 1) (k - stepAt w first n)))
+          → getD (cond b (ending ed (l .scale) (l .offset) (pointAt w first n)) (downTo (along n) (stepAt w first n) (from f (n + 1)))) k Overflow
+          ≡ sampleAt ed w first l
           (cond b (place n 0) (cond d (place n (stepAt w first n - k)) (placeFrom w first f (n + 1) (k - stepAt w first n))))
       go true d e u ih = let k0 : k ≡ 0 = omega arith in rw k0 (sample-end n)
       go false true e u ih =
@@ -92,7 +93,7 @@ module _ (w : List ℕ) (first : ℕ) (l : Loaded) where
           downTo-past (along n) (stepAt w first n) (from f (n + 1)) k (omega (arith, ltb-false)) ∙ ih (omega (arith, ltb-false))
 
   -- The samples of a table's ramp are those of its points, in order
-  pub in-order : InOrder w first l
+  pub in-order : InOrder ed w first l
   unfolding pointsOf placeOf
   in-order =
       record {

@@ -9,6 +9,7 @@ use native.Mathlib.Nat.{suc-mul}
 use native.Mathlib.Numerals.{add-one}
 use lib.Dec.{leb}
 use borrow.Author.Tests.{le-leb, lt-leb}
+use Rattle.sum.specs.declared.Edition.{Edition}
 use Rattle.sum.specs.declared.Sum.{Sum}
 use Rattle.sum.specs.declared.Sum.the-variants.{Word, Overflow}
 use Rattle.wave.specs.Sine.{sineOf}
@@ -36,14 +37,14 @@ after-output Overflow over n g = refl
 
 -- ---- channel c's ramp for the level v under the settings w, with the wave tables u
 
-module _ (c v : ℕ) (w : List ℕ) where
+module _ (ed : Edition) (c v : ℕ) (w : List ℕ) where
   -- free run is one of sine mode
   pub free-sine : freeFor w c v ≡ true → sineFor w c v ≡ true
   free-sine e = and-first (sineFor w c v) _ e
 
   -- the sum that sample k gives the output, with the wave tables u and the amplitude a
   abbrev soundFor : List ℕ → ℕ → ℕ → Sum
-  soundFor u k a = cond (sineFor w c v) (sineOf u c (counterFor w c v k) a) (sumFor w c v k)
+  soundFor u k a = cond (sineFor w c v) (sineOf u c (counterFor w c v k) a) (sumFor ed w c v k)
 
   pub same-sound : (k : ℕ) (i j : List ℕ) (m n : ℕ) → i ≡ j → m ≡ n → soundFor i k m ≡ soundFor j k n
   same-sound k i j m n e f = rw (e, f)
@@ -53,41 +54,41 @@ module _ (c v : ℕ) (w : List ℕ) where
   Counted k g = sineFor w c v ≡ true → g .counter ≡ counterFor w c v k
 
   module _ (u : List ℕ) (a : ℕ) (g : Signal) where
-    pub signal-counted : (k : ℕ) → Counted k (signalFor u w c v k a g)
+    pub signal-counted : (k : ℕ) → Counted k (signalFor ed u w c v k a g)
     signal-counted k e =
-        rw e (after-counter (sineOf u c (counterFor w c v k) a) (leb k (totalFor w c v) && overflows (sumFor w c v k)) (counterFor w c v k) g)
+        rw e (after-counter (sineOf u c (counterFor w c v k) a) (leb k (totalFor w c v) && overflows (sumFor ed w c v k)) (counterFor w c v k) g)
 
-    pub signal-output : (k : ℕ) → signalFor u w c v k a g .output ≡ hold (soundFor u k a) (g .output)
+    pub signal-output : (k : ℕ) → signalFor ed u w c v k a g .output ≡ hold (soundFor u k a) (g .output)
     signal-output k = go (sineFor w c v)
       where
         go : (b : Bool)
-            → cond b (sineAfter u c (counterFor w c v k) a (leb k (totalFor w c v) && overflows (sumFor w c v k)) g) (signalAfter (sumFor w c v k) false (g .counter) g) .output
-            ≡ hold (cond b (sineOf u c (counterFor w c v k) a) (sumFor w c v k)) (g .output)
+            → cond b (sineAfter u c (counterFor w c v k) a (leb k (totalFor w c v) && overflows (sumFor ed w c v k)) g) (signalAfter (sumFor ed w c v k) false (g .counter) g) .output
+            ≡ hold (cond b (sineOf u c (counterFor w c v k) a) (sumFor ed w c v k)) (g .output)
         go true = after-output (sineOf u c (counterFor w c v k) a) _ (counterFor w c v k) g
-        go false = after-output (sumFor w c v k) false (g .counter) g
+        go false = after-output (sumFor ed w c v k) false (g .counter) g
 
     -- a sample of the ramp
     ramp-made : (first : Bool) (k : ℕ) → k ≤ totalFor w c v → (sineFor w c v ≡ true → counterAt first (toneFor w c v) (g .counter) ≡ counterFor w c v k)
-        → makeOf u c (OfRamp first (sumFor w c v k)) (toneFor w c v) a g ≡ signalFor u w c v k a g
+        → makeOf u c (OfRamp first (sumFor ed w c v k)) (toneFor w c v) a g ≡ signalFor ed u w c v k a g
     unfolding makeOf
     ramp-made first k h n = go (sineFor w c v) refl
       where
         go : (b : Bool) → sineFor w c v ≡ b
-            → cond b (sineAfter u c (counterAt first (toneFor w c v) (g .counter)) a (overflows (sumFor w c v k)) g) (signalAfter (sumFor w c v k) false (g .counter) g)
-            ≡ signalFor u w c v k a g
+            → cond b (sineAfter u c (counterAt first (toneFor w c v) (g .counter)) a (overflows (sumFor ed w c v k)) g) (signalAfter (sumFor ed w c v k) false (g .counter) g)
+            ≡ signalFor ed u w c v k a g
         go true e = rw (e, n e, le-leb k (totalFor w c v) h)
         go false e = rw e
 
-    pub first-made : makeOf u c (OfRamp true (sumFor w c v 0)) (toneFor w c v) a g ≡ signalFor u w c v 0 a g
+    pub first-made : makeOf u c (OfRamp true (sumFor ed w c v 0)) (toneFor w c v) a g ≡ signalFor ed u w c v 0 a g
     first-made = ramp-made true 0 (omega arith) (λ e. refl)
 
     pub next-made : (k : ℕ) → k < totalFor w c v → Counted k g
-        → makeOf u c (OfRamp false (sumFor w c v (k + 1))) (toneFor w c v) a g ≡ signalFor u w c v (k + 1) a g
+        → makeOf u c (OfRamp false (sumFor ed w c v (k + 1))) (toneFor w c v) a g ≡ signalFor ed u w c v (k + 1) a g
     next-made k h n = ramp-made false (k + 1) (omega arith) (λ e. rw (add-one k, n e))
 
     -- a sample of the free run
     pub free-made : (k : ℕ) → totalFor w c v ≤ k → freeFor w c v ≡ true → Counted k g
-        → makeOf u c OfFreeRun (toneFor w c v) a g ≡ signalFor u w c v (k + 1) a g
+        → makeOf u c OfFreeRun (toneFor w c v) a g ≡ signalFor ed u w c v (k + 1) a g
     unfolding makeOf
     free-made k h e n = rw (free-sine e, n (free-sine e), lt-leb (k + 1) (totalFor w c v) (omega arith), add-one k)
 

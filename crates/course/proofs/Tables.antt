@@ -11,6 +11,7 @@ use lib.ListN.{getD}
 use borrow.Author.Tests.{eqb-false}
 use Rattle.word.specs.Word.{grown}
 use Rattle.word.specs.Table.{valueAt, stepAt}
+use Rattle.sum.specs.declared.Edition.{Edition}
 use Rattle.sum.specs.declared.Sum.{Sum}
 use Rattle.sum.specs.Sample.{sampleOf}
 use Rattle.channel.specs.declared.Place.{Place}
@@ -28,9 +29,9 @@ pub grown-small : (n : ℕ) → n < 63 → grown n ≡ n + 1
 grown-small n h = mod-eq-of-lt (omega arith)
 
 -- the sum depends on its words alone
-same-sum : (ld : Loaded) (m a b s a′ b′ s′ : ℕ) → a ≡ a′ → b ≡ b′ → s ≡ s′
-    → sampleOf (ld .scale) a b s m (ld .offset) ≡ sampleOf (ld .scale) a′ b′ s′ m (ld .offset)
-same-sum ld m a b s a′ b′ s′ e f g = rw (e, f, g)
+same-sum : (ed : Edition) (ld : Loaded) (m a b s a′ b′ s′ : ℕ) → a ≡ a′ → b ≡ b′ → s ≡ s′
+    → sampleOf ed (ld .scale) a b s m (ld .offset) ≡ sampleOf ed (ld .scale) a′ b′ s′ m (ld .offset)
+same-sum ed ld m a b s a′ b′ s′ e f g = rw (e, f, g)
 
 same-choice : (b : Bool) (x y x′ y′ : Sum) → x ≡ x′ → (b ≡ false → y ≡ y′) → cond b x y ≡ cond b x′ y′
 same-choice true x y x′ y′ e f = e
@@ -54,14 +55,14 @@ module _ (l : List ℕ) (at : ℕ) (w : List ℕ) (first : ℕ) (h : SameTable l
   unfolding next
   same-next p g = rw (grown-small (p .segment) g, same-enter (p .segment + 1) (omega arith))
 
-  pub same-sample : (ld : Loaded) (p : Place) → Placed p → sampleAt l at ld p ≡ sampleAt w first ld p
+  pub same-sample : (ed : Edition) (ld : Loaded) (p : Place) → Placed p → sampleAt ed l at ld p ≡ sampleAt ed w first ld p
   unfolding sampleAt
-  same-sample ld p f =
+  same-sample ed ld p f =
       same-choice (eqb (p .left .0) 0) _ _ _ _
-      (same-sum ld 0 _ _ 0 _ _ 0 (same-value (p .segment) (f .most)) (same-value (p .segment) (f .most)) refl)
+      (same-sum ed ld 0 _ _ 0 _ _ 0 (same-value (p .segment) (f .most)) (same-value (p .segment) (f .most)) refl)
       (λ e. let d = eqb-false (p .left .0) 0 e in
       let g : p .segment < 63 = f .inner (omega arith) in
-      same-sum ld (p .left .0) _ _ _ _ _ _ (same-value (p .segment) (f .most)) (same-value (p .segment + 1) (omega arith)) (same-step (p .segment) (f .most)))
+      same-sum ed ld (p .left .0) _ _ _ _ _ _ (same-value (p .segment) (f .most)) (same-value (p .segment + 1) (omega arith)) (same-step (p .segment) (f .most)))
 
-  pub same-give : (ld : Loaded) (p : Place) (s : Shown) → Placed p → give l at ld p s ≡ give w first ld p s
-  same-give ld p s f = rw (same-sample ld p f)
+  pub same-give : (ed : Edition) (ld : Loaded) (p : Place) (s : Shown) → Placed p → give ed l at ld p s ≡ give ed w first ld p s
+  same-give ed ld p s f = rw (same-sample ed ld p f)

@@ -4,6 +4,7 @@ use mathlib.Core.List.{List, [], _∷_}
 use Prim.Native.Nat.{ℕ, zero, suc}
 use lib.Dec.{eqb}
 use lib.ListN.{length}
+use Rattle.sum.specs.declared.Edition.{Edition}
 use Rattle.channel.specs.declared.Channel.{Channel}
 use Rattle.word.specs.Copy.{copied}
 use Rattle.channel.specs.Channel.{Side, side, firstOf, runsOf, tickOf, outputTo, overflowCleared}
@@ -26,15 +27,15 @@ elsewhere c l l′ = cond (eqb (length l′) (length l)) (copied 128 l (firstOf 
 unfoldable pub written : ℕ → Channel → Channel
 written v ch = cond (runsOf ch) ch (outputTo ch v)
 
-abbrev pub act : ℕ → Side → Act → Side
-act c x (Tick s w) = tickOf s w (x .tables) c (x .channel)
-act c x (Elsewhere l) = side (x .channel) (elsewhere c (x .tables) l)
-act c x (Output v) = side (written v (x .channel)) (x .tables)
-act c x Clear = side (overflowCleared (x .channel)) (x .tables)
+abbrev pub act : Edition → ℕ → Side → Act → Side
+act edition c x (Tick s w) = tickOf edition s w (x .tables) c (x .channel)
+act edition c x (Elsewhere l) = side (x .channel) (elsewhere c (x .tables) l)
+act edition c x (Output v) = side (written v (x .channel)) (x .tables)
+act edition c x Clear = side (overflowCleared (x .channel)) (x .tables)
 
-abbrev pub run : ℕ → Side → List Act → Side
-run c x [] = x
-run c x (y ∷ ys) = run c (act c x y) ys
+abbrev pub run : Edition → ℕ → Side → List Act → Side
+run edition c x [] = x
+run edition c x (y ∷ ys) = run edition c (act edition c x y) ys
 
 -- the ticks among the acts
 abbrev pub ticksIn : List Act → ℕ

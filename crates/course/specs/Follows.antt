@@ -8,6 +8,7 @@ use Prim.Native.Nat.{ℕ, zero, suc, _+_, _*_, _-_, _%_, _≤_, _<_}
 use lib.Dec.{leb}
 use lib.ListN.{length}
 use Rattle.map.specs.Addresses.{tableAt, enableAt}
+use Rattle.sum.specs.declared.Edition.{Edition}
 use Rattle.sum.specs.declared.Sum.{Sum}
 use Rattle.channel.specs.declared.Place.{Place}
 use Rattle.channel.specs.declared.Shown.{Shown}
@@ -32,11 +33,11 @@ totalFor s c level = total s (tableFor s c level)
 abbrev pub placeFor : List ℕ → ℕ → ℕ → ℕ → Place
 placeFor s c level k = placeOf s (tableFor s c level) k
 
-abbrev pub sumFor : List ℕ → ℕ → ℕ → ℕ → Sum
-sumFor s c level k = sampleAt s (tableFor s c level) (loadedFor s c level) (placeFor s c level k)
+abbrev pub sumFor : Edition → List ℕ → ℕ → ℕ → ℕ → Sum
+sumFor edition s c level k = sampleAt edition s (tableFor s c level) (loadedFor s c level) (placeFor s c level k)
 
-abbrev pub sampleFor : List ℕ → ℕ → ℕ → ℕ → Shown → Shown
-sampleFor s c level k = put (sumFor s c level k) (placeFor s c level k)
+abbrev pub sampleFor : Edition → List ℕ → ℕ → ℕ → ℕ → Shown → Shown
+sampleFor edition s c level k = put (sumFor edition s c level k) (placeFor s c level k)
 
 -- its mode, and the counter at sample k: 'starts at the phase on sample 0 and grows by the frequency each later sample, going round at 65,536'
 abbrev pub sineFor : List ℕ → ℕ → ℕ → Bool
@@ -61,15 +62,15 @@ Plays s c level k = (k ≤ totalFor s c level) ⊎ (freeFor s c level ≡ true)
 
 -- what sample k makes of the signal, a being the amplitude then and w the wave tables: in sine mode the sine at its counter, in plain mode
 -- document 01's rule. An amplitude out of range counts in A39; after the end's sample there is none
-abbrev pub signalFor : List ℕ → List ℕ → ℕ → ℕ → ℕ → ℕ → Signal → Signal
-signalFor w s c level k a g =
+abbrev pub signalFor : Edition → List ℕ → List ℕ → ℕ → ℕ → ℕ → ℕ → Signal → Signal
+signalFor edition w s c level k a g =
     cond (sineFor s c level)
-    (sineAfter w c (counterFor s c level k) a (leb k (totalFor s c level) && overflows (sumFor s c level k)) g)
-    (signalAfter (sumFor s c level k) false (g .counter) g)
+    (sineAfter w c (counterFor s c level k) a (leb k (totalFor s c level) && overflows (sumFor edition s c level k)) g)
+    (signalAfter (sumFor edition s c level k) false (g .counter) g)
 
 -- A trigger of a level sets the countdown d. The settings s are held on tick d − 10, and A00 is a on tick d. Channel c is `now` after
 -- t ticks, and `later` just after the next, which has the wave tables w.
-pub record Follows (c level d : ℕ) (s : List ℕ) (a t : ℕ) (w : List ℕ) (now later : Side) : Type 0 where
+pub record Follows (edition : Edition) (c level d : ℕ) (s : List ℕ) (a t : ℕ) (w : List ℕ) (now later : Side) : Type 0 where
   -- from tick d − 10 on the copy is of s: table number, scale factor, offset, and mode, frequency and phase
   pub loaded : d ≤ t + 10 → now .channel .loaded ≡ loadedFor s c level
   -- and the table's 128 words
@@ -78,12 +79,12 @@ pub record Follows (c level d : ℕ) (s : List ℕ) (a t : ℕ) (w : List ℕ) (
   pub aborted : t + 11 ≡ d → later .channel .shown ≡ blank (now .channel .shown)
   pub held : t + 11 ≡ d → later .channel .signal ≡ now .channel .signal
   -- sample k comes on tick d + 10 k: the amplitude and the place
-  pub sample : a ≡ 1 → (k : ℕ) → k ≤ totalFor s c level → t + 1 ≡ d + 10 * k → later .channel .shown ≡ sampleFor s c level k (now .channel .shown)
+  pub sample : a ≡ 1 → (k : ℕ) → k ≤ totalFor s c level → t + 1 ≡ d + 10 * k → later .channel .shown ≡ sampleFor edition s c level k (now .channel .shown)
   -- and none on any other tick after the load
   pub silent : d ≤ t + 10 → (a ≡ 1 → (k : ℕ) → k ≤ totalFor s c level → t + 1 ≡ d + 10 * k → ⊥) → later .channel .shown ≡ now .channel .shown
   -- the output, A39 and the counter, likewise, and under free run every 10 ticks after the end's sample too
   pub made : a ≡ 1 → (k : ℕ) → Plays s c level k → t + 1 ≡ d + 10 * k
-      → later .channel .signal ≡ signalFor w s c level k (later .channel .shown .amplitude) (now .channel .signal)
+      → later .channel .signal ≡ signalFor edition w s c level k (later .channel .shown .amplitude) (now .channel .signal)
   pub still : d ≤ t + 10 → (a ≡ 1 → (k : ℕ) → Plays s c level k → t + 1 ≡ d + 10 * k → ⊥) → later .channel .signal ≡ now .channel .signal
   -- from tick d − 10 until tick d it counts, and no ramp runs
   pub counts : d ≤ t + 10 → (n : ℕ) → 1 ≤ n → t + n ≡ d → now .channel .phase ≡ Counting (record { 0 = n }) Still
@@ -100,8 +101,8 @@ pub record Follows (c level d : ℕ) (s : List ℕ) (a t : ℕ) (w : List ℕ) (
 -- no trigger among them, and then a tick under the settings z with the wave tables w. The tables have room for the channel's 128 words.
 unfoldable pub TriggerFollowed : Type 0
 TriggerFollowed =
-    (s l : List ℕ) (c : ℕ) (ch : Channel) (level : ℕ) → 128 * c + 128 ≤ length l
+    (edition : Edition) (s l : List ℕ) (c : ℕ) (ch : Channel) (level : ℕ) → 128 * c + 128 ≤ length l
     → (xs : List Act) (z w : List ℕ)
     → let d : ℕ = countdown s c level in
-    let now : Side = run c (triggered s l c ch level) xs in
-    Follows c level d (heldOn s z (d - 10) xs) (word (heldOn s z d xs) (enableAt c)) (ticksIn xs) w now (act c now (Tick z w))
+    let now : Side = run edition c (triggered s l c ch level) xs in
+    Follows edition c level d (heldOn s z (d - 10) xs) (word (heldOn s z d xs) (enableAt c)) (ticksIn xs) w now (act edition c now (Tick z w))

@@ -5,6 +5,7 @@ use mathlib.Core.Bool.{Bool, true, false, cond}
 use mathlib.Core.List.{List}
 use Prim.Native.Nat.{ℕ}
 use Rattle.word.specs.Word.{grown}
+use Rattle.sum.specs.declared.Edition.{Edition}
 use Rattle.channel.specs.declared.Gave.{Gave}
 use Rattle.channel.specs.declared.Gave.the-variants.{NoSample, OfRamp, OfFreeRun}
 use Rattle.channel.specs.declared.Ramp.{Ramp}
@@ -37,19 +38,19 @@ isFree (Going w) = false
 isFree (Free w) = true
 
 -- the tick x of document 01's channel is that of channel c
-pub record PlainTick (s w l : List ℕ) (c : ℕ) (ch : Channel) (x : Move) : Type 0 where
-  pub output : tickOf s w l c ch .channel .signal .output ≡ x .channel .shown .amplitude
-  pub overflow : tickOf s w l c ch .channel .signal .overflow ≡ countedBy (x .gave) (ch .signal .overflow)
-  pub place : tickOf s w l c ch .channel .shown .place ≡ x .channel .shown .place
-  pub phase : tickOf s w l c ch .channel .phase ≡ x .channel .phase
-  pub level : tickOf s w l c ch .channel .level ≡ x .channel .level
-  pub loaded : tickOf s w l c ch .channel .loaded ≡ x .channel .loaded
-  pub tables : tickOf s w l c ch .tables ≡ x .tables
+pub record PlainTick (edition : Edition) (s w l : List ℕ) (c : ℕ) (ch : Channel) (x : Move) : Type 0 where
+  pub output : tickOf edition s w l c ch .channel .signal .output ≡ x .channel .shown .amplitude
+  pub overflow : tickOf edition s w l c ch .channel .signal .overflow ≡ countedBy (x .gave) (ch .signal .overflow)
+  pub place : tickOf edition s w l c ch .channel .shown .place ≡ x .channel .shown .place
+  pub phase : tickOf edition s w l c ch .channel .phase ≡ x .channel .phase
+  pub level : tickOf edition s w l c ch .channel .level ≡ x .channel .level
+  pub loaded : tickOf edition s w l c ch .channel .loaded ≡ x .channel .loaded
+  pub tables : tickOf edition s w l c ch .tables ≡ x .tables
   -- the wave tables do not matter
-  pub waves : (v : List ℕ) → tickOf s v l c ch ≡ tickOf s w l c ch
+  pub waves : (v : List ℕ) → tickOf edition s v l c ch ≡ tickOf edition s w l c ch
 
 -- of every channel whose ramp was loaded with A01 0 or 4 and is not in free run
 unfoldable pub PlainTicks : Type 0
 PlainTicks =
-    (s w l : List ℕ) (c : ℕ) (ch : Channel) → isSine (ch .loaded .tone .mode) ≡ false → isFree (rampOf (ch .phase)) ≡ false
-    → PlainTick s w l c ch (moveOf s l c (asOutput ch))
+    (edition : Edition) (s w l : List ℕ) (c : ℕ) (ch : Channel) → isSine (ch .loaded .tone .mode) ≡ false → isFree (rampOf (ch .phase)) ≡ false
+    → PlainTick edition s w l c ch (moveOf edition s l c (asOutput ch))

@@ -10,6 +10,7 @@ use lib.IntN.{ℤ}
 use borrow.Author.Tests.{ltb-true, ltb-false, ne-eqb}
 use Rattle.word.specs.Table.{valueAt, stepAt, isEnd, stepsBefore}
 use Rattle.map.specs.Addresses.{tableAt}
+use Rattle.sum.specs.declared.Edition.{Edition}
 use Rattle.sum.specs.declared.Sum.{Sum}
 use Rattle.sum.specs.declared.Sum.the-variants.{Word, Overflow}
 use Rattle.sum.specs.declared.Side.{Side}
@@ -47,12 +48,12 @@ in-side : (z : ℤ) → sideOf z ≡ Within → overflows (settled z) ≡ false
 in-side z e = rw e
 
 -- a sample between two points that are in range
-between-in : (scale from to step left offset : ℕ) → 1 ≤ step → left ≤ step
-    → overflows (sampleOf scale from from 0 0 offset) ≡ false → overflows (sampleOf scale to to 0 0 offset) ≡ false
-    → overflows (sampleOf scale from to step left offset) ≡ false
-between-in scale from to step left offset h l a b =
-    in-side (totalOf scale from to step left offset)
-    (points-decide scale from to step left offset h l (side-in _ (totalOf scale from from 0 0 offset) a) (side-in _ (totalOf scale to to 0 0 offset) b))
+between-in : (ed : Edition) (scale from to step left offset : ℕ) → 1 ≤ step → left ≤ step
+    → overflows (sampleOf ed scale from from 0 0 offset) ≡ false → overflows (sampleOf ed scale to to 0 0 offset) ≡ false
+    → overflows (sampleOf ed scale from to step left offset) ≡ false
+between-in ed scale from to step left offset h l a b =
+    in-side (totalOf ed scale from to step left offset)
+    (points-decide ed scale from to step left offset h l (side-in _ (totalOf ed scale from from 0 0 offset) a) (side-in _ (totalOf ed scale to to 0 0 offset) b))
 
 module _ (w : List ℕ) (first : ℕ) where
   -- ---- time steps before a point
@@ -96,51 +97,51 @@ module _ (w : List ℕ) (first : ℕ) where
       omega (arith, steps-suc w first n)
 
   module _ (l : Loaded) where
-    abbrev sums : ℕ → Sum
-    sums k = sampleAt w first l (placeOf w first k)
+    abbrev sums : (ed : Edition) → ℕ → Sum
+    sums ed k = sampleAt ed w first l (placeOf w first k)
 
     abbrev own : ℕ → Sum
     own n = ownSum w first l n
 
     -- the sample of a place at a point, with all of its segment left
-    point-own : (n : ℕ) (p : Place) → p .segment ≡ n → p .left .0 ≡ stepAt w first n → 1 ≤ stepAt w first n → sampleAt w first l p ≡ own n
+    point-own : (ed : Edition) (n : ℕ) (p : Place) → p .segment ≡ n → p .left .0 ≡ stepAt w first n → 1 ≤ stepAt w first n → sampleAt ed w first l p ≡ own n
     unfolding sampleAt
-    point-own n p a b h =
+    point-own ed n p a b h =
         rw (b, ne-eqb (stepAt w first n) 0 (λ q. absurd (omega arith)), a)
-        (point-sample (l .scale) (valueAt w first n) (valueAt w first (n + 1)) (stepAt w first n) (l .offset) (valueAt w first n) 0)
+        (point-sample ed (l .scale) (valueAt w first n) (valueAt w first (n + 1)) (stepAt w first n) (l .offset) (valueAt w first n) 0)
 
-    last-own : sums (total w first) ≡ own e
+    last-own : (ed : Edition) → sums ed (total w first) ≡ own e
     unfolding sampleAt
-    last-own = rw (all .last)
+    last-own ed = rw (all .last)
 
-    pub own-sum : (n : ℕ) → n ≤ e → sums (stepsBefore w first n) ≡ own n
-    own-sum n h = go (ltb n e) refl
+    pub own-sum : (ed : Edition) (n : ℕ) → n ≤ e → sums ed (stepsBefore w first n) ≡ own n
+    own-sum ed n h = go (ltb n e) refl
       where
-        go : (b : Bool) → ltb n e ≡ b → sums (stepsBefore w first n) ≡ own n
+        go : (b : Bool) → ltb n e ≡ b → sums ed (stepsBefore w first n) ≡ own n
         go false q =
             let s : n ≡ e = omega (arith, ltb-false) in
-            ap (λ (i : ℕ). sums (stepsBefore w first i)) s ∙ ap sums (sym (all .all)) ∙ last-own ∙ ap own (sym s)
+            ap (λ (i : ℕ). (sums ed) (stepsBefore w first i)) s ∙ ap (sums ed) (sym (all .all)) ∙ last-own ed ∙ ap own (sym s)
         go true q =
             let u : n < e = omega (arith, ltb-true) in
             let i = some-step n u in
             let y = all .within (stepsBefore w first n) (omega (arith, steps-suc w first n, steps-mono (suc n) e (omega arith), all .all)) in
             let s = segment-is n (placeOf w first (stepsBefore w first n)) i y in
-            point-own n (placeOf w first (stepsBefore w first n)) s (left-is n (placeOf w first (stepsBefore w first n)) s y) i
+            point-own ed n (placeOf w first (stepsBefore w first n)) s (left-is n (placeOf w first (stepsBefore w first n)) s y) i
 
-    place-in : (p : Place) (k : ℕ) → points.Within w first e k p → ((n : ℕ) → n ≤ e → overflows (own n) ≡ false) → overflows (sampleAt w first l p) ≡ false
+    place-in : (ed : Edition) (p : Place) (k : ℕ) → points.Within w first e k p → ((n : ℕ) → n ≤ e → overflows (own n) ≡ false) → overflows (sampleAt ed w first l p) ≡ false
     unfolding sampleAt
-    place-in p k y h =
+    place-in ed p k y h =
         rw (ne-eqb (p .left .0) 0 (λ z. absurd (omega (arith, y .some))))
-        (between-in (l .scale) (valueAt w first (p .segment)) (valueAt w first (p .segment + 1)) (stepAt w first (p .segment)) (p .left .0) (l .offset)
+        (between-in ed (l .scale) (valueAt w first (p .segment)) (valueAt w first (p .segment + 1)) (stepAt w first (p .segment)) (p .left .0) (l .offset)
         (omega (arith, y .some, y .few)) (y .few) (h (p .segment) (omega (arith, y .inside))) (h (p .segment + 1) (omega (arith, y .inside))))
 
     -- WHERE EVERY POINT UP TO THE END IS IN RANGE, EVERY SAMPLE IS
-    points-in : ((n : ℕ) → n ≤ e → overflows (own n) ≡ false) → (k : ℕ) → k ≤ total w first → overflows (sums k) ≡ false
-    points-in h k g = go (ltb k (total w first)) refl
+    points-in : (ed : Edition) → ((n : ℕ) → n ≤ e → overflows (own n) ≡ false) → (k : ℕ) → k ≤ total w first → overflows (sums ed k) ≡ false
+    points-in ed h k g = go (ltb k (total w first)) refl
       where
-        go : (b : Bool) → ltb k (total w first) ≡ b → overflows (sums k) ≡ false
-        go false q = let s : k ≡ total w first = omega (arith, ltb-false) in ap (λ (i : ℕ). overflows (sums i)) s ∙ ap overflows last-own ∙ h e (omega arith)
-        go true q = place-in (placeOf w first k) k (all .within k (omega (arith, ltb-true))) h
+        go : (b : Bool) → ltb k (total w first) ≡ b → overflows (sums ed k) ≡ false
+        go false q = let s : k ≡ total w first = omega (arith, ltb-false) in ap (λ (i : ℕ). overflows (sums ed i)) s ∙ ap overflows (last-own ed) ∙ h e (omega arith)
+        go true q = place-in ed (placeOf w first k) k (all .within k (omega (arith, ltb-true))) h
 
     -- ---- what a walk over the points finds, from point n on
 
@@ -204,38 +205,38 @@ abbrev pub told : ℕ → ℕ → ℕ → Out → Verdict
 told c level table Nowhere = Passes
 told c level table (At n) = Breaks (record { channel = c; level = level; table = table; point = n })
 
-module _ (s : List ℕ) (c level : ℕ) where
+module _ (ed : Edition) (s : List ℕ) (c level : ℕ) where
   abbrev start : ℕ
   start = tableFor s c level
 
   abbrev ld : Loaded
   ld = loadedFor s c level
 
-  keeps-not : (k : ℕ) → k ≤ total s start → overflows (sums s start ld k) ≡ true → keeps s c level ≡ false
+  keeps-not : (k : ℕ) → k ≤ total s start → overflows (sums ed s start ld k) ≡ true → keeps ed s c level ≡ false
   unfolding keeps
-  keeps-not k h o = go (eachIn (sums s start ld) (total s start + 1)) refl
+  keeps-not k h o = go (eachIn (sums ed s start ld) (total s start + 1)) refl
     where
-      go : (b : Bool) → eachIn (sums s start ld) (total s start + 1) ≡ b → b ≡ false
+      go : (b : Bool) → eachIn (sums ed s start ld) (total s start + 1) ≡ b → b ≡ false
       go false q = refl
-      go true q = absurd (differ (overflows (sums s start ld k)) o (in-each (sums s start ld) (total s start + 1) q k (omega arith)))
+      go true q = absurd (differ (overflows (sums ed s start ld k)) o (in-each (sums ed s start ld) (total s start + 1) q k (omega arith)))
 
-  found-told : (o : Out) → Found s start ld 0 o → levelVerdict s c level ≡ told c level (ld .table) o
+  found-told : (o : Out) → Found s start ld 0 o → levelVerdict ed s c level ≡ told c level (ld .table) o
   unfolding levelVerdict keeps
   found-told _ (at m a b p d) =
-      let k : overflows (sums s start ld (stepsBefore s start m)) ≡ true = ap overflows (own-sum s start ld m b) ∙ p in
-      let f : firstOut (λ n. sums s start ld (stepsBefore s start n)) (endPoint s start) 0 ≡ m =
-      first-out (λ n. sums s start ld (stepsBefore s start n)) (endPoint s start) 0 m (omega arith) (omega arith) k
-      (λ i j g. ap overflows (own-sum s start ld i (omega arith)) ∙ d i j g) in
+      let k : overflows (sums ed s start ld (stepsBefore s start m)) ≡ true = ap overflows (own-sum ed s start ld m b) ∙ p in
+      let f : firstOut (λ n. sums ed s start ld (stepsBefore s start n)) (endPoint s start) 0 ≡ m =
+      first-out (λ n. sums ed s start ld (stepsBefore s start n)) (endPoint s start) 0 m (omega arith) (omega arith) k
+      (λ i j g. ap overflows (own-sum ed s start ld i (omega arith)) ∙ d i j g) in
       rw (keeps-not (stepsBefore s start m) (steps-most s start m b) k, f)
   found-told _ (nowhere d) =
-      rw (each-in (sums s start ld) (total s start + 1) (λ k h. points-in s start ld (λ n g. d n (omega arith) g) k (omega arith)))
+      rw (each-in (sums ed s start ld) (total s start + 1) (λ k h. points-in ed s start ld (λ n g. d n (omega arith) g) k (omega arith)))
 
   -- POINTS UP TO THE RAMP'S END DECIDE
-  by-points : levelVerdict s c level ≡ told c level (ld .table) (outFrom s start ld 64 0)
+  by-points : levelVerdict ed s c level ≡ told c level (ld .table) (outFrom s start ld 64 0)
   by-points = found-told _ (walk s start ld 63 0 (omega arith) (omega arith))
 
   -- of a call: what the maps give is read, and its points are walked over
-  pub walked : {x : Loaded} {o : Out} → x ≡ ld → o ≡ outFrom s (tableAt c (x .table)) x 64 0 → (r : Out) → o ≡ r → told c level (x .table) r ≡ levelVerdict s c level
+  pub walked : {x : Loaded} {o : Out} → x ≡ ld → o ≡ outFrom s (tableAt c (x .table)) x 64 0 → (r : Out) → o ≡ r → told c level (x .table) r ≡ levelVerdict ed s c level
   walked e f r g =
       ap (λ (x : Loaded). told c level (x .table) r) e
       ∙ ap (told c level (ld .table)) (sym g ∙ f ∙ ap (λ (x : Loaded). outFrom s (tableAt c (x .table)) x 64 0) e)
@@ -246,8 +247,8 @@ module _ (s : List ℕ) (c level : ℕ) where
   pub record Broken (b : Break) : Type 0 where
     pub is : b ≡ record { channel = c; level = level; table = ld .table; point = b .point }
     pub point : b .point ≤ endPoint s start
-    pub out : overflows (pointSum s c level (b .point)) ≡ true
-    pub earlier : (n : ℕ) → n < b .point → overflows (pointSum s c level n) ≡ false
+    pub out : overflows (pointSum ed s c level (b .point)) ≡ true
+    pub earlier : (n : ℕ) → n < b .point → overflows (pointSum ed s c level n) ≡ false
 
   found-broken : (o : Out) → Found s start ld 0 o → (b : Break) → told c level (ld .table) o ≡ Breaks b → Broken b
   found-broken _ (at m x y p d) b q =
@@ -255,10 +256,10 @@ module _ (s : List ℕ) (c level : ℕ) where
       subst Broken e (record {
         is = refl;
         point = y;
-        out = ap overflows (own-sum s start ld m y) ∙ p;
-        earlier = λ n h. ap overflows (own-sum s start ld n (omega arith)) ∙ d n (omega arith) h;
+        out = ap overflows (own-sum ed s start ld m y) ∙ p;
+        earlier = λ n h. ap overflows (own-sum ed s start ld n (omega arith)) ∙ d n (omega arith) h;
       })
   found-broken _ (nowhere d) b q = let z : _≡_ {A = ℕ} 0 1 = cc in absurd (omega arith)
 
-  pub broken : (b : Break) → levelVerdict s c level ≡ Breaks b → Broken b
+  pub broken : (b : Break) → levelVerdict ed s c level ≡ Breaks b → Broken b
   broken b e = found-broken _ (walk s start ld 63 0 (omega arith) (omega arith)) b (sym by-points ∙ e)

@@ -5,6 +5,7 @@ use mathlib.Core.Bool.{Bool, true, false, cond}
 use mathlib.Core.List.{List}
 use Prim.Native.Nat.{ℕ, zero, suc, _+_, _<_}
 use native.Mathlib.Omega.{arith}
+use Rattle.sum.specs.declared.Edition.{Edition}
 use Rattle.sum.specs.declared.Sum.{Sum}
 use Rattle.sum.specs.declared.Sum.the-variants.{Word, Overflow}
 use Rattle.channel.specs.Ramp.{hold}
@@ -17,43 +18,43 @@ use Rattle.profile.specs.Laws.{InRange, AllInRange, FirstBreak, VerdictR
 use Rattle.profile.proofs.Search.{each-in, in-each, Named, all-pass, each-passes, first-named}
 use Rattle.profile.proofs.Points.{broken, steps-most}
 
-module _ (s : List ℕ) where
+module _ (ed : Edition) (s : List ℕ) where
   -- ---- one ramp
 
-  level-in : (c level : ℕ) → levelVerdict s c level ≡ Passes → InRange s c level
+  level-in : (c level : ℕ) → levelVerdict ed s c level ≡ Passes → InRange ed s c level
   unfolding levelVerdict keeps
-  level-in c level e k h = in-each (sumFor s c level) (totalFor s c level + 1) (go (keeps s c level) refl e) k (omega arith)
+  level-in c level e k h = in-each (sumFor ed s c level) (totalFor s c level + 1) (go (keeps ed s c level) refl e) k (omega arith)
     where
-      go : (x : Bool) → keeps s c level ≡ x → cond x Passes (Breaks (breakOf s c level)) ≡ Passes → keeps s c level ≡ true
+      go : (x : Bool) → keeps ed s c level ≡ x → cond x Passes (Breaks (breakOf ed s c level)) ≡ Passes → keeps ed s c level ≡ true
       go true q u = q
       go false q u = let z : _≡_ {A = ℕ} 0 1 = cc in absurd (omega arith)
 
-  in-level : (c level : ℕ) → InRange s c level → levelVerdict s c level ≡ Passes
+  in-level : (c level : ℕ) → InRange ed s c level → levelVerdict ed s c level ≡ Passes
   unfolding levelVerdict keeps
-  in-level c level h = rw (each-in (sumFor s c level) (totalFor s c level + 1) (λ k g. h k (omega arith)))
+  in-level c level h = rw (each-in (sumFor ed s c level) (totalFor s c level + 1) (λ k g. h k (omega arith)))
 
   -- ---- a channel, and all four
 
-  channel-in : (c : ℕ) → channelVerdict s c ≡ Passes → (level : ℕ) → level < 32 → InRange s c level
+  channel-in : (c : ℕ) → channelVerdict ed s c ≡ Passes → (level : ℕ) → level < 32 → InRange ed s c level
   unfolding channelVerdict
-  channel-in c e level h = level-in c level (each-passes (levelVerdict s c) 0 32 e level (omega arith) (omega arith))
+  channel-in c e level h = level-in c level (each-passes (levelVerdict ed s c) 0 32 e level (omega arith) (omega arith))
 
-  all-in : verdictOf s ≡ Passes → AllInRange s
+  all-in : verdictOf ed s ≡ Passes → AllInRange ed s
   unfolding verdictOf
-  all-in e c level h g = channel-in c (each-passes (channelVerdict s) 0 4 e c (omega arith) (omega arith)) level g
+  all-in e c level h g = channel-in c (each-passes (channelVerdict ed s) 0 4 e c (omega arith) (omega arith)) level g
 
-  in-all : AllInRange s → verdictOf s ≡ Passes
+  in-all : AllInRange ed s → verdictOf ed s ≡ Passes
   unfolding verdictOf channelVerdict
-  in-all h = all-pass (channelVerdict s) 0 4 (λ c l g. all-pass (levelVerdict s c) 0 32 (λ level m f. in-level c level (h c level (omega arith) (omega arith))))
+  in-all h = all-pass (channelVerdict ed s) 0 4 (λ c l g. all-pass (levelVerdict ed s c) 0 32 (λ level m f. in-level c level (h c level (omega arith) (omega arith))))
 
   -- ---- the first that breaks
 
-  first-level : (b : Break) (x : Named (channelVerdict s) 0 4 b) → Named (levelVerdict s (x .place)) 0 32 b → FirstBreak s b
+  first-level : (b : Break) (x : Named (channelVerdict ed s) 0 4 b) → Named (levelVerdict ed s (x .place)) 0 32 b → FirstBreak ed s b
   first-level b x y =
       let c = x .place in
       let level = y .place in
-      let r = broken s c level b (y .names) in
-      subst (FirstBreak s) (sym (r .is)) (record {
+      let r = broken ed s c level b (y .names) in
+      subst (FirstBreak ed s) (sym (r .is)) (record {
         channel = omega (arith, x .below);
         level = omega (arith, y .below);
         channels = λ d v l g. channel-in d (x .earlier d (omega arith) l) v g;
@@ -65,12 +66,12 @@ module _ (s : List ℕ) where
         points = r .earlier;
       })
 
-  first-break : (b : Break) → verdictOf s ≡ Breaks b → FirstBreak s b
+  first-break : (b : Break) → verdictOf ed s ≡ Breaks b → FirstBreak ed s b
   unfolding verdictOf channelVerdict
-  first-break b e = let x = first-named (channelVerdict s) 0 4 b e in first-level b x (first-named (levelVerdict s (x .place)) 0 32 b (x .names))
+  first-break b e = let x = first-named (channelVerdict ed s) 0 4 b e in first-level b x (first-named (levelVerdict ed s (x .place)) 0 32 b (x .names))
 
   -- THE VERDICT IS THE REQUEST'S
-  pub verdict-right : VerdictRight s
+  pub verdict-right : VerdictRight ed s
   verdict-right = record { passes = all-in; passes-only = in-all; breaks = first-break }
 
 -- ---- nothing is held
@@ -81,5 +82,5 @@ own-word Overflow before e = let z : _≡_ {A = ℕ} 0 1 = cc in absurd (omega a
 
 pub nothing-held : NothingHeld
 unfolding NothingHeld
-nothing-held s c level h before zero l = own-word (sumFor s c level 0) before (h 0 l)
-nothing-held s c level h before (suc k) l = own-word (sumFor s c level (suc k)) _ (h (suc k) l)
+nothing-held ed s c level h before zero l = own-word (sumFor ed s c level 0) before (h 0 l)
+nothing-held ed s c level h before (suc k) l = own-word (sumFor ed s c level (suc k)) _ (h (suc k) l)

@@ -3,6 +3,7 @@ use mathlib.Core.Bool.{Bool, true, not, _&&_, cond}
 use mathlib.Core.List.{List}
 use Prim.Native.Nat.{ℕ, zero, suc, _+_}
 use Rattle.word.specs.Table.{stepsBefore}
+use Rattle.sum.specs.declared.Edition.{Edition}
 use Rattle.sum.specs.declared.Sum.{Sum}
 use Rattle.channel.specs.Signal.{overflows}
 use Rattle.channel.specs.Channel.{loadedFor}
@@ -20,14 +21,14 @@ eachIn sums zero = true
 eachIn sums (suc n) = eachIn sums n && not (overflows (sums n))
 
 -- 'every sample of its ramp has a sum in range': T + 1 samples, 0 to T. 'Points beyond the ramp's end do not count'
-unfoldable pub keeps : List ℕ → ℕ → ℕ → Bool
-keeps s c level = eachIn (sumFor s c level) (totalFor s c level + 1)
+unfoldable pub keeps : Edition → List ℕ → ℕ → ℕ → Bool
+keeps edition s c level = eachIn (sumFor edition s c level) (totalFor s c level + 1)
 
 -- ---- what is told of one that breaks this
 
 -- the sum at point n: its sample's number is the sum of the time steps before it
-abbrev pub pointSum : List ℕ → ℕ → ℕ → ℕ → Sum
-pointSum s c level n = sumFor s c level (stepsBefore s (tableFor s c level) n)
+abbrev pub pointSum : Edition → List ℕ → ℕ → ℕ → ℕ → Sum
+pointSum edition s c level n = sumFor edition s c level (stepsBefore s (tableFor s c level) n)
 
 -- the first point whose sum is out of range, sought from point n on, with f points after it
 unfoldable pub firstOut : (ℕ → Sum) → ℕ → ℕ → ℕ
@@ -35,13 +36,13 @@ firstOut sums zero n = n
 firstOut sums (suc f) n = cond (overflows (sums n)) n (firstOut sums f (n + 1))
 
 -- its channel and level, its table, and the first such point up to the ramp's end
-abbrev pub breakOf : List ℕ → ℕ → ℕ → Break
-breakOf s c level =
+abbrev pub breakOf : Edition → List ℕ → ℕ → ℕ → Break
+breakOf edition s c level =
     record {
       channel = c;
       level = level;
       table = loadedFor s c level .table;
-      point = firstOut (pointSum s c level) (endPoint s (tableFor s c level)) 0;
+      point = firstOut (pointSum edition s c level) (endPoint s (tableFor s c level)) 0;
     }
 
 -- ---- the check
@@ -57,12 +58,12 @@ firstFrom f i zero = Passes
 firstFrom f i (suc n) = orElse (f i) (firstFrom f (i + 1) n)
 
 -- one ramp: it keeps the profile, or breaks it
-unfoldable pub levelVerdict : List ℕ → ℕ → ℕ → Verdict
-levelVerdict s c level = cond (keeps s c level) Passes (Breaks (breakOf s c level))
+unfoldable pub levelVerdict : Edition → List ℕ → ℕ → ℕ → Verdict
+levelVerdict edition s c level = cond (keeps edition s c level) Passes (Breaks (breakOf edition s c level))
 
 -- 'for every channel and level'; 'the first channel, then level, that breaks this'
-unfoldable pub channelVerdict : List ℕ → ℕ → Verdict
-channelVerdict s c = firstFrom (levelVerdict s c) 0 32
+unfoldable pub channelVerdict : Edition → List ℕ → ℕ → Verdict
+channelVerdict edition s c = firstFrom (levelVerdict edition s c) 0 32
 
-unfoldable pub verdictOf : List ℕ → Verdict
-verdictOf s = firstFrom (channelVerdict s) 0 4
+unfoldable pub verdictOf : Edition → List ℕ → Verdict
+verdictOf edition s = firstFrom (channelVerdict edition s) 0 4

@@ -29,7 +29,7 @@ returns c =
     c .quiet .ensures
     ∙ ap (λ (x : Channel). record { channel = x; gave = NoSample })
     (c .before .in-phase .ensures ∙ ap (λ (w : Way). with (a .ch) (Running w) (a .ch .shown)) (c .before .before .on-way .ensures))
-    ∙ ap (λ (m : Moved). ticked (movedOn (a .ch) (a .tables .now) m)) (waits (a .tables .now) (firstOf (a .c)) (a .ch .loaded) (a .ch .shown) (a .w) (c .before .before .before .before .before .before .if1 .taken))
+    ∙ ap (λ (m : Moved). ticked (movedOn (a .ch) (a .tables .now) m)) (waits (a .edition) (a .tables .now) (firstOf (a .c)) (a .ch .loaded) (a .ch .shown) (a .w) (c .before .before .before .before .before .before .if1 .taken))
 
 run-requires : tie.Need-run-requires
 run-requires c κs = search needs
