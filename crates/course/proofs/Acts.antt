@@ -118,8 +118,8 @@ elsewhere-is c l l′ e h = rw (eq-eqb (length l′) (length l) e) (copied-same 
 module _ (s l : List ℕ) (b c : ℕ) (ch : Channel) (other : b ≡ c → ⊥) where
   pub tick-elsewhere : (ed : Edition) (w : List ℕ) → elsewhere c l (tickOf ed s w l b ch .tables) ≡ tickOf ed s w l b ch .tables
   tick-elsewhere ed w =
-      elsewhere-is c l (tickOf ed s w l b ch .tables) (tick-length ed s l b ch w)
-      (λ i h. tick-out ed s l b ch w (firstOf c + i) (λ f g. apart b c i other h f g))
+      elsewhere-is c l (tickOf ed s w l b ch .tables) (tick-length s l b ch ed w)
+      (λ i h. tick-out s l b ch ed w (firstOf c + i) (λ f g. apart b c i other h f g))
 
   pub trigger-elsewhere : (level : ℕ) → elsewhere c l (triggered s l b ch level .tables) ≡ triggered s l b ch level .tables
   trigger-elsewhere level =
@@ -129,7 +129,7 @@ module _ (s l : List ℕ) (b c : ℕ) (ch : Channel) (other : b ≡ c → ⊥) w
 -- ---- any act
 
 pub act-length : (ed : Edition) (c : ℕ) (x : Side) (y : Act) → length (act ed c x y .tables) ≡ length (x .tables)
-act-length ed c x (Tick s w) = tick-length ed s (x .tables) c (x .channel) w
+act-length ed c x (Tick s w) = tick-length s (x .tables) c (x .channel) ed w
 act-length ed c x (Elsewhere l) = elsewhere-length c (x .tables) l
 act-length ed c x (Output v) = refl
 act-length ed c x Clear = refl

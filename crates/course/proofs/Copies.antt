@@ -93,14 +93,14 @@ module _ (s l : List ℕ) (c : ℕ) (ch : Channel) where
     trigger-tables level q = choose (λ (x : Side). P (x .tables)) (loadsAt (countdown s c level)) _ _ (load-tables level q) p
 
   pub tick-length : (ed : Edition) (w : List ℕ) → length (tickOf ed s w l c ch .tables) ≡ length l
-  tick-length ed w = tick-tables ed (λ x. length x ≡ length l) refl w (λ from. copied-length 128 s from l (firstOf c))
+  tick-length ed w = tick-tables (λ x. length x ≡ length l) refl ed w (λ from. copied-length 128 s from l (firstOf c))
 
   pub trigger-length : (level : ℕ) → length (triggered s l c ch level .tables) ≡ length l
   trigger-length level = trigger-tables (λ x. length x ≡ length l) refl level (λ from. copied-length 128 s from l (firstOf c))
 
   -- a word of another channel
   pub tick-out : (ed : Edition) (w : List ℕ) (at : ℕ) → (firstOf c ≤ at → at < firstOf c + 128 → ⊥) → word (tickOf ed s w l c ch .tables) at ≡ word l at
-  tick-out ed w at o = tick-tables ed (λ x. word x at ≡ word l at) refl w (λ from. copied-out 128 s from l (firstOf c) at o)
+  tick-out ed w at o = tick-tables (λ x. word x at ≡ word l at) refl ed w (λ from. copied-out 128 s from l (firstOf c) at o)
 
   pub trigger-out : (level at : ℕ) → (firstOf c ≤ at → at < firstOf c + 128 → ⊥) → word (triggered s l c ch level .tables) at ≡ word l at
   trigger-out level at o = trigger-tables (λ x. word x at ≡ word l at) refl level (λ from. copied-out 128 s from l (firstOf c) at o)

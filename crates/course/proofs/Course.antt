@@ -152,7 +152,7 @@ module _ (ed : Edition) (c v : ℕ) (w : List ℕ) (a d : ℕ) where
         h .loaded,
         same-enter (x .tables) (firstOf c) w from (h .table) 0 (omega arith),
         place-first w from,
-        same-sample ed (x .tables) (firstOf c) w from (h .table) (loadedFor w c v) (spot 0) (placed w from 0),
+        same-sample (x .tables) (firstOf c) w from (h .table) ed (loadedFor w c v) (spot 0) (placed w from 0),
         first-made ed c v w u _ (x .channel .signal),
       )
 
@@ -166,7 +166,7 @@ module _ (ed : Edition) (c v : ℕ) (w : List ℕ) (a d : ℕ) where
         same-next (x .tables) (firstOf c) w from (h .table) (spot k)
             (placed w from k .inner (place-more w from k i)),
         place-step w from k i,
-        same-sample ed (x .tables) (firstOf c) w from (h .table) (loadedFor w c v) (spot (k + 1)) (placed w from (k + 1)),
+        same-sample (x .tables) (firstOf c) w from (h .table) ed (loadedFor w c v) (spot (k + 1)) (placed w from (k + 1)),
         next-made ed c v w u _ (x .channel .signal) k i n,
       )
 

@@ -51,15 +51,15 @@ module _ (ed : Edition) (s l : List ℕ) (c : ℕ) (ch : Channel) (v : ℕ) (roo
       go true q =
           let h : word s (delayAt c v) ≤ 10 = omega (arith, leb-true) in
           let d10 : countdown s c v ≡ 10 = omega arith in
-          rw (counts.at-once ed s l c ch v h, d10) (load-starts ed c v s e l ch room)
+          rw (counts.at-once s l c ch v h, d10) (load-starts ed c v s e l ch room)
       go false q =
           let h : 10 < word s (delayAt c v) = omega (arith, leb-false) in
-          rw (counts.later ed s l c ch v h) (waits (word s (delayAt c v)) (rampOf (ch .phase)) (omega arith) h refl refl)
+          rw (counts.later s l c ch v h) (waits (word s (delayAt c v)) (rampOf (ch .phase)) (omega arith) h refl refl)
 
   pub ahead : Ahead ed c v w a d 0 s z xs
   ahead =
       record {
-        loads ed = λ n q. let e : d - 10 ≡ suc n = omega arith in rw e;
+        loads = λ n q. let e : d - 10 ≡ suc n = omega arith in rw e;
         enabled = λ n q. let e : d ≡ suc n = omega arith in rw e;
       }
 

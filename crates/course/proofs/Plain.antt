@@ -71,7 +71,7 @@ module _ (w : List ℕ) (c : ℕ) (t : Tone) (a : ℕ) (g : Signal) where
 
 -- ---- the ramp of channel c, in plain mode
 
-module _ (s l : List ℕ) (c : ℕ) (ch : Channel) (plain : isSine (ch .loaded .tone .mode) ≡ false) where
+module _ (ed : Edition) (s l : List ℕ) (c : ℕ) (ch : Channel) (plain : isSine (ch .loaded .tone .mode) ≡ false) where
   -- the ramp moves, and that of document 01's channel
   record AlikeRamp (y y′ : Moved) : Type 0 where
     pub ramp : y .ramp ≡ y′ .ramp
@@ -112,50 +112,50 @@ module _ (s l : List ℕ) (c : ℕ) (ch : Channel) (plain : isSine (ch .loaded .
   alike-quiet p =
       record { phase = refl; level = refl; loaded = refl; place = refl; tables = refl; gave = refl; signal = refl; holds = refl; silent = refl }
 
-  alike-given : (ed : Edition) (isFirst : Bool) (period : ℕ) (p : Place)
+  alike-given : (isFirst : Bool) (period : ℕ) (p : Place)
       → AlikeRamp (given ed isFirst l (firstOf c) (ch .loaded) period p (ch .shown)) (given ed isFirst l (firstOf c) (ch .loaded) period p (asOutput ch .shown))
   unfolding given
-  alike-given ed isFirst period p = record { ramp = refl; place = refl; gave = refl; holds = refl; silent = plain }
+  alike-given isFirst period p = record { ramp = refl; place = refl; gave = refl; holds = refl; silent = plain }
 
   alike-unsampled : (r : Ramp) → AlikeRamp (unsampled r (ch .shown)) (unsampled r (asOutput ch .shown))
   alike-unsampled r = record { ramp = refl; place = refl; gave = refl; holds = refl; silent = refl }
 
-  alike-advance : (ed : Edition) (r : Ramp) → isFree r ≡ false
+  alike-advance : (r : Ramp) → isFree r ≡ false
       → AlikeRamp (advance ed l (firstOf c) (ch .loaded) r (ch .shown)) (advance ed l (firstOf c) (ch .loaded) r (asOutput ch .shown))
   unfolding advance
-  alike-advance ed Still e = alike-unsampled Still
-  alike-advance ed (Going r) e =
+  alike-advance Still e = alike-unsampled Still
+  alike-advance (Going r) e =
       choose-both AlikeRamp (ltb 1 (r .wait .0)) _ _ _ _ (alike-unsampled (Going (sooner r)))
-      (alike-given ed false (r .period .0) (next l (firstOf c) (r .place)))
-  alike-advance ed (Free r) e = absurd (differ true refl e)
+      (alike-given false (r .period .0) (next l (firstOf c) (r .place)))
+  alike-advance (Free r) e = absurd (differ true refl e)
 
-  alike-start : (ed : Edition) → Alike (start ed s l c ch) (start ed s l c (asOutput ch))
+  alike-start : Alike (start ed s l c ch) (start ed s l c (asOutput ch))
   unfolding start
-  alike-start ed =
-      choose-both Alike (eqb (word s (enableAt c)) 1) _ _ _ _ (alike-moved phaseOf _ _ (alike-given ed true 10 (enter l (firstOf c) 0))) (alike-quiet Rest)
+  alike-start =
+      choose-both Alike (eqb (word s (enableAt c)) 1) _ _ _ _ (alike-moved phaseOf _ _ (alike-given true 10 (enter l (firstOf c) 0))) (alike-quiet Rest)
 
   alike-load : Alike (quiet (load s l c ch (ch .level))) (quiet (load s l c (asOutput ch) (ch .level)))
   unfolding load
   alike-load =
       record { phase = refl; level = refl; loaded = refl; place = refl; tables = refl; gave = refl; signal = refl; holds = refl; silent = refl }
 
-  alike-count : (ed : Edition) (m : ℕ) (older : Ramp) → isFree older ≡ false → Alike (countTo ed m older s l c ch) (countTo ed m older s l c (asOutput ch))
+  alike-count : (m : ℕ) (older : Ramp) → isFree older ≡ false → Alike (countTo ed m older s l c ch) (countTo ed m older s l c (asOutput ch))
   unfolding countTo
-  alike-count ed m older e =
-      choose-both Alike (eqb m 0) _ _ _ _ (alike-start ed)
-      (choose-both Alike (loadsAt m) _ _ _ _ alike-load (alike-moved (λ r. Counting (record { 0 = m }) r) _ _ (alike-advance ed older e)))
+  alike-count m older e =
+      choose-both Alike (eqb m 0) _ _ _ _ alike-start
+      (choose-both Alike (loadsAt m) _ _ _ _ alike-load (alike-moved (λ r. Counting (record { 0 = m }) r) _ _ (alike-advance older e)))
 
-  alike-move : (ed : Edition) (f : Phase) → isFree (rampOf f) ≡ false → Alike (moveAt ed f s l c ch) (moveAt ed f s l c (asOutput ch))
+  alike-move : (f : Phase) → isFree (rampOf f) ≡ false → Alike (moveAt ed f s l c ch) (moveAt ed f s l c (asOutput ch))
   unfolding moveAt
-  alike-move ed Rest e = alike-quiet (ch .phase)
-  alike-move ed (Counting n older) e = alike-count ed (n .0 - 1) older e
-  alike-move ed (Running w) e = alike-moved phaseOf _ _ (alike-advance ed (Going w) e)
-  alike-move ed (FreeRunning w) e = absurd (differ true refl e)
+  alike-move Rest e = alike-quiet (ch .phase)
+  alike-move (Counting n older) e = alike-count (n .0 - 1) older e
+  alike-move (Running w) e = alike-moved phaseOf _ _ (alike-advance (Going w) e)
+  alike-move (FreeRunning w) e = absurd (differ true refl e)
 
-  plain-tick : (ed : Edition) (w : List ℕ) → isFree (rampOf (ch .phase)) ≡ false → PlainTick ed s w l c ch (moveOf ed s l c (asOutput ch))
+  plain-tick : (w : List ℕ) → isFree (rampOf (ch .phase)) ≡ false → PlainTick ed s w l c ch (moveOf ed s l c (asOutput ch))
   unfolding tickOf
-  plain-tick ed w e =
-      let h : Alike (moveOf ed s l c ch) (moveOf ed s l c (asOutput ch)) = alike-move ed (ch .phase) e in
+  plain-tick w e =
+      let h : Alike (moveOf ed s l c ch) (moveOf ed s l c (asOutput ch)) = alike-move (ch .phase) e in
       let x : Move = moveOf ed s l c ch in
       let t : Tone = x .channel .loaded .tone in
       let a : ℕ = x .channel .shown .amplitude in

@@ -55,7 +55,7 @@ between-in ed scale from to step left offset h l a b =
     in-side (totalOf ed scale from to step left offset)
     (points-decide ed scale from to step left offset h l (side-in _ (totalOf ed scale from from 0 0 offset) a) (side-in _ (totalOf ed scale to to 0 0 offset) b))
 
-module _ (w : List ℕ) (first : ℕ) where
+module _ (ed : Edition) (w : List ℕ) (first : ℕ) where
   -- ---- time steps before a point
 
   more-steps : (n d : ℕ) → stepsBefore w first n ≤ stepsBefore w first (d + n)
@@ -97,51 +97,51 @@ module _ (w : List ℕ) (first : ℕ) where
       omega (arith, steps-suc w first n)
 
   module _ (l : Loaded) where
-    abbrev sums : (ed : Edition) → ℕ → Sum
-    sums ed k = sampleAt ed w first l (placeOf w first k)
+    abbrev sums : ℕ → Sum
+    sums k = sampleAt ed w first l (placeOf w first k)
 
     abbrev own : ℕ → Sum
     own n = ownSum w first l n
 
     -- the sample of a place at a point, with all of its segment left
-    point-own : (ed : Edition) (n : ℕ) (p : Place) → p .segment ≡ n → p .left .0 ≡ stepAt w first n → 1 ≤ stepAt w first n → sampleAt ed w first l p ≡ own n
+    point-own : (n : ℕ) (p : Place) → p .segment ≡ n → p .left .0 ≡ stepAt w first n → 1 ≤ stepAt w first n → sampleAt ed w first l p ≡ own n
     unfolding sampleAt
-    point-own ed n p a b h =
+    point-own n p a b h =
         rw (b, ne-eqb (stepAt w first n) 0 (λ q. absurd (omega arith)), a)
         (point-sample ed (l .scale) (valueAt w first n) (valueAt w first (n + 1)) (stepAt w first n) (l .offset) (valueAt w first n) 0)
 
-    last-own : (ed : Edition) → sums ed (total w first) ≡ own e
+    last-own : sums (total w first) ≡ own e
     unfolding sampleAt
-    last-own ed = rw (all .last)
+    last-own = rw (all .last)
 
-    pub own-sum : (ed : Edition) (n : ℕ) → n ≤ e → sums ed (stepsBefore w first n) ≡ own n
-    own-sum ed n h = go (ltb n e) refl
+    pub own-sum : (n : ℕ) → n ≤ e → sums (stepsBefore w first n) ≡ own n
+    own-sum n h = go (ltb n e) refl
       where
-        go : (b : Bool) → ltb n e ≡ b → sums ed (stepsBefore w first n) ≡ own n
+        go : (b : Bool) → ltb n e ≡ b → sums (stepsBefore w first n) ≡ own n
         go false q =
             let s : n ≡ e = omega (arith, ltb-false) in
-            ap (λ (i : ℕ). (sums ed) (stepsBefore w first i)) s ∙ ap (sums ed) (sym (all .all)) ∙ last-own ed ∙ ap own (sym s)
+            ap (λ (i : ℕ). sums (stepsBefore w first i)) s ∙ ap sums (sym (all .all)) ∙ last-own ∙ ap own (sym s)
         go true q =
             let u : n < e = omega (arith, ltb-true) in
             let i = some-step n u in
             let y = all .within (stepsBefore w first n) (omega (arith, steps-suc w first n, steps-mono (suc n) e (omega arith), all .all)) in
             let s = segment-is n (placeOf w first (stepsBefore w first n)) i y in
-            point-own ed n (placeOf w first (stepsBefore w first n)) s (left-is n (placeOf w first (stepsBefore w first n)) s y) i
+            point-own n (placeOf w first (stepsBefore w first n)) s (left-is n (placeOf w first (stepsBefore w first n)) s y) i
 
-    place-in : (ed : Edition) (p : Place) (k : ℕ) → points.Within w first e k p → ((n : ℕ) → n ≤ e → overflows (own n) ≡ false) → overflows (sampleAt ed w first l p) ≡ false
+    place-in : (p : Place) (k : ℕ) → points.Within w first e k p → ((n : ℕ) → n ≤ e → overflows (own n) ≡ false) → overflows (sampleAt ed w first l p) ≡ false
     unfolding sampleAt
-    place-in ed p k y h =
+    place-in p k y h =
         rw (ne-eqb (p .left .0) 0 (λ z. absurd (omega (arith, y .some))))
         (between-in ed (l .scale) (valueAt w first (p .segment)) (valueAt w first (p .segment + 1)) (stepAt w first (p .segment)) (p .left .0) (l .offset)
         (omega (arith, y .some, y .few)) (y .few) (h (p .segment) (omega (arith, y .inside))) (h (p .segment + 1) (omega (arith, y .inside))))
 
     -- WHERE EVERY POINT UP TO THE END IS IN RANGE, EVERY SAMPLE IS
-    points-in : (ed : Edition) → ((n : ℕ) → n ≤ e → overflows (own n) ≡ false) → (k : ℕ) → k ≤ total w first → overflows (sums ed k) ≡ false
-    points-in ed h k g = go (ltb k (total w first)) refl
+    points-in : ((n : ℕ) → n ≤ e → overflows (own n) ≡ false) → (k : ℕ) → k ≤ total w first → overflows (sums k) ≡ false
+    points-in h k g = go (ltb k (total w first)) refl
       where
-        go : (b : Bool) → ltb k (total w first) ≡ b → overflows (sums ed k) ≡ false
-        go false q = let s : k ≡ total w first = omega (arith, ltb-false) in ap (λ (i : ℕ). overflows (sums ed i)) s ∙ ap overflows (last-own ed) ∙ h e (omega arith)
-        go true q = place-in ed (placeOf w first k) k (all .within k (omega (arith, ltb-true))) h
+        go : (b : Bool) → ltb k (total w first) ≡ b → overflows (sums k) ≡ false
+        go false q = let s : k ≡ total w first = omega (arith, ltb-false) in ap (λ (i : ℕ). overflows (sums i)) s ∙ ap overflows last-own ∙ h e (omega arith)
+        go true q = place-in (placeOf w first k) k (all .within k (omega (arith, ltb-true))) h
 
     -- ---- what a walk over the points finds, from point n on
 
@@ -220,20 +220,20 @@ module _ (ed : Edition) (s : List ℕ) (c level : ℕ) where
       go false q = refl
       go true q = absurd (differ (overflows (sums ed s start ld k)) o (in-each (sums ed s start ld) (total s start + 1) q k (omega arith)))
 
-  found-told : (o : Out) → Found s start ld 0 o → levelVerdict ed s c level ≡ told c level (ld .table) o
+  found-told : (o : Out) → Found ed s start ld 0 o → levelVerdict ed s c level ≡ told c level (ld .table) o
   unfolding levelVerdict keeps
   found-told _ (at m a b p d) =
       let k : overflows (sums ed s start ld (stepsBefore s start m)) ≡ true = ap overflows (own-sum ed s start ld m b) ∙ p in
       let f : firstOut (λ n. sums ed s start ld (stepsBefore s start n)) (endPoint s start) 0 ≡ m =
       first-out (λ n. sums ed s start ld (stepsBefore s start n)) (endPoint s start) 0 m (omega arith) (omega arith) k
       (λ i j g. ap overflows (own-sum ed s start ld i (omega arith)) ∙ d i j g) in
-      rw (keeps-not (stepsBefore s start m) (steps-most s start m b) k, f)
+      rw (keeps-not (stepsBefore s start m) (steps-most ed s start m b) k, f)
   found-told _ (nowhere d) =
       rw (each-in (sums ed s start ld) (total s start + 1) (λ k h. points-in ed s start ld (λ n g. d n (omega arith) g) k (omega arith)))
 
   -- POINTS UP TO THE RAMP'S END DECIDE
   by-points : levelVerdict ed s c level ≡ told c level (ld .table) (outFrom s start ld 64 0)
-  by-points = found-told _ (walk s start ld 63 0 (omega arith) (omega arith))
+  by-points = found-told _ (walk ed s start ld 63 0 (omega arith) (omega arith))
 
   -- of a call: what the maps give is read, and its points are walked over
   pub walked : {x : Loaded} {o : Out} → x ≡ ld → o ≡ outFrom s (tableAt c (x .table)) x 64 0 → (r : Out) → o ≡ r → told c level (x .table) r ≡ levelVerdict ed s c level
@@ -250,7 +250,7 @@ module _ (ed : Edition) (s : List ℕ) (c level : ℕ) where
     pub out : overflows (pointSum ed s c level (b .point)) ≡ true
     pub earlier : (n : ℕ) → n < b .point → overflows (pointSum ed s c level n) ≡ false
 
-  found-broken : (o : Out) → Found s start ld 0 o → (b : Break) → told c level (ld .table) o ≡ Breaks b → Broken b
+  found-broken : (o : Out) → Found ed s start ld 0 o → (b : Break) → told c level (ld .table) o ≡ Breaks b → Broken b
   found-broken _ (at m x y p d) b q =
       let e : _≡_ {A = Break} (record { channel = c; level = level; table = ld .table; point = m }) b = cc in
       subst Broken e (record {
@@ -262,4 +262,4 @@ module _ (ed : Edition) (s : List ℕ) (c level : ℕ) where
   found-broken _ (nowhere d) b q = let z : _≡_ {A = ℕ} 0 1 = cc in absurd (omega arith)
 
   pub broken : (b : Break) → levelVerdict ed s c level ≡ Breaks b → Broken b
-  broken b e = found-broken _ (walk s start ld 63 0 (omega arith) (omega arith)) b (sym by-points ∙ e)
+  broken b e = found-broken _ (walk ed s start ld 63 0 (omega arith) (omega arith)) b (sym by-points ∙ e)
