@@ -11,12 +11,13 @@ use borrow.Author.Tests.{ltb-true, ltb-false, ne-eqb}
 use Rattle.word.specs.Table.{valueAt, stepAt, isEnd, stepsBefore}
 use Rattle.map.specs.Addresses.{tableAt}
 use Rattle.sum.specs.declared.Edition.{Edition}
+use Rattle.sum.specs.declared.Edition.the-variants.{First}
 use Rattle.sum.specs.declared.Sum.{Sum}
 use Rattle.sum.specs.declared.Sum.the-variants.{Word, Overflow}
 use Rattle.sum.specs.declared.Side.{Side}
 use Rattle.sum.specs.declared.Side.the-variants.{Below, Within, Above}
 use Rattle.sum.specs.Sample.{sideOf, onSide, settled, totalOf, sampleOf}
-use Rattle.sum.proofs.Samples.{point-sample}
+use Rattle.sum.proofs.Samples.{point-sample, own-sample}
 use Rattle.sum.proofs.Sides.{points-decide}
 use Rattle.channel.specs.declared.Place.{Place}
 use Rattle.channel.specs.declared.Loaded.{Loaded}
@@ -55,7 +56,7 @@ between-in ed scale from to step left offset h l a b =
     in-side (totalOf ed scale from to step left offset)
     (points-decide ed scale from to step left offset h l (side-in _ (totalOf ed scale from from 0 0 offset) a) (side-in _ (totalOf ed scale to to 0 0 offset) b))
 
-module _ (ed : Edition) (w : List ℕ) (first : ℕ) where
+module _ (w : List ℕ) (first : ℕ) where
   -- ---- time steps before a point
 
   more-steps : (n d : ℕ) → stepsBefore w first n ≤ stepsBefore w first (d + n)
@@ -97,51 +98,9 @@ module _ (ed : Edition) (w : List ℕ) (first : ℕ) where
       omega (arith, steps-suc w first n)
 
   module _ (l : Loaded) where
-    abbrev sums : ℕ → Sum
-    sums k = sampleAt ed w first l (placeOf w first k)
-
+    -- the sum of point n's own V, the same in every edition
     abbrev own : ℕ → Sum
     own n = ownSum w first l n
-
-    -- the sample of a place at a point, with all of its segment left
-    point-own : (n : ℕ) (p : Place) → p .segment ≡ n → p .left .0 ≡ stepAt w first n → 1 ≤ stepAt w first n → sampleAt ed w first l p ≡ own n
-    unfolding sampleAt
-    point-own n p a b h =
-        rw (b, ne-eqb (stepAt w first n) 0 (λ q. absurd (omega arith)), a)
-        (point-sample ed (l .scale) (valueAt w first n) (valueAt w first (n + 1)) (stepAt w first n) (l .offset) (valueAt w first n) 0)
-
-    last-own : sums (total w first) ≡ own e
-    unfolding sampleAt
-    last-own = rw (all .last)
-
-    pub own-sum : (n : ℕ) → n ≤ e → sums (stepsBefore w first n) ≡ own n
-    own-sum n h = go (ltb n e) refl
-      where
-        go : (b : Bool) → ltb n e ≡ b → sums (stepsBefore w first n) ≡ own n
-        go false q =
-            let s : n ≡ e = omega (arith, ltb-false) in
-            ap (λ (i : ℕ). sums (stepsBefore w first i)) s ∙ ap sums (sym (all .all)) ∙ last-own ∙ ap own (sym s)
-        go true q =
-            let u : n < e = omega (arith, ltb-true) in
-            let i = some-step n u in
-            let y = all .within (stepsBefore w first n) (omega (arith, steps-suc w first n, steps-mono (suc n) e (omega arith), all .all)) in
-            let s = segment-is n (placeOf w first (stepsBefore w first n)) i y in
-            point-own n (placeOf w first (stepsBefore w first n)) s (left-is n (placeOf w first (stepsBefore w first n)) s y) i
-
-    place-in : (p : Place) (k : ℕ) → points.Within w first e k p → ((n : ℕ) → n ≤ e → overflows (own n) ≡ false) → overflows (sampleAt ed w first l p) ≡ false
-    unfolding sampleAt
-    place-in p k y h =
-        rw (ne-eqb (p .left .0) 0 (λ z. absurd (omega (arith, y .some))))
-        (between-in ed (l .scale) (valueAt w first (p .segment)) (valueAt w first (p .segment + 1)) (stepAt w first (p .segment)) (p .left .0) (l .offset)
-        (omega (arith, y .some, y .few)) (y .few) (h (p .segment) (omega (arith, y .inside))) (h (p .segment + 1) (omega (arith, y .inside))))
-
-    -- WHERE EVERY POINT UP TO THE END IS IN RANGE, EVERY SAMPLE IS
-    points-in : ((n : ℕ) → n ≤ e → overflows (own n) ≡ false) → (k : ℕ) → k ≤ total w first → overflows (sums k) ≡ false
-    points-in h k g = go (ltb k (total w first)) refl
-      where
-        go : (b : Bool) → ltb k (total w first) ≡ b → overflows (sums k) ≡ false
-        go false q = let s : k ≡ total w first = omega (arith, ltb-false) in ap (λ (i : ℕ). overflows (sums i)) s ∙ ap overflows last-own ∙ h e (omega arith)
-        go true q = place-in (placeOf w first k) k (all .within k (omega (arith, ltb-true))) h
 
     -- ---- what a walk over the points finds, from point n on
 
@@ -170,6 +129,56 @@ module _ (ed : Edition) (w : List ℕ) (first : ℕ) where
         go false p true q ih = nowhere (λ i j k. let s : i ≡ n = omega (arith, at-end w first e end n g q) in rw s p)
         go false p false q ih = one-more n _ p (ih (omega (arith, not-end w first e end n g q)))
 
+  -- ---- the samples of an edition
+
+  module _ (ed : Edition) (l : Loaded) where
+    abbrev sums : ℕ → Sum
+    sums k = sampleAt ed w first l (placeOf w first k)
+
+    -- the sample of a place at a point, with all of its segment left
+    point-own : (n : ℕ) (p : Place) → p .segment ≡ n → p .left .0 ≡ stepAt w first n → 1 ≤ stepAt w first n → sampleAt ed w first l p ≡ own l n
+    unfolding sampleAt
+    point-own n p a b h =
+        rw (b, ne-eqb (stepAt w first n) 0 (λ q. absurd (omega arith)), a)
+        (point-sample ed (l .scale) (valueAt w first n) (valueAt w first (n + 1)) (stepAt w first n) (l .offset) (valueAt w first n) 0
+        ∙ own-sample ed (l .scale) (valueAt w first n) (l .offset))
+
+    last-own : sums (total w first) ≡ own l e
+    unfolding sampleAt
+    last-own = rw (all .last) (own-sample ed (l .scale) (valueAt w first e) (l .offset))
+
+    pub own-sum : (n : ℕ) → n ≤ e → sums (stepsBefore w first n) ≡ own l n
+    own-sum n h = go (ltb n e) refl
+      where
+        go : (b : Bool) → ltb n e ≡ b → sums (stepsBefore w first n) ≡ own l n
+        go false q =
+            let s : n ≡ e = omega (arith, ltb-false) in
+            ap (λ (i : ℕ). sums (stepsBefore w first i)) s ∙ ap sums (sym (all .all)) ∙ last-own ∙ ap (own l) (sym s)
+        go true q =
+            let u : n < e = omega (arith, ltb-true) in
+            let i = some-step n u in
+            let y = all .within (stepsBefore w first n) (omega (arith, steps-suc w first n, steps-mono (suc n) e (omega arith), all .all)) in
+            let s = segment-is n (placeOf w first (stepsBefore w first n)) i y in
+            point-own n (placeOf w first (stepsBefore w first n)) s (left-is n (placeOf w first (stepsBefore w first n)) s y) i
+
+    place-in : (p : Place) (k : ℕ) → points.Within w first e k p → ((n : ℕ) → n ≤ e → overflows (own l n) ≡ false) → overflows (sampleAt ed w first l p) ≡ false
+    unfolding sampleAt
+    place-in p k y h =
+        rw (ne-eqb (p .left .0) 0 (λ z. absurd (omega (arith, y .some))))
+        (between-in ed (l .scale) (valueAt w first (p .segment)) (valueAt w first (p .segment + 1)) (stepAt w first (p .segment)) (p .left .0) (l .offset)
+        (omega (arith, y .some, y .few)) (y .few) (in-own (p .segment) (omega (arith, y .inside))) (in-own (p .segment + 1) (omega (arith, y .inside))))
+      where
+        in-own : (n : ℕ) → n ≤ e → overflows (sampleOf ed (l .scale) (valueAt w first n) (valueAt w first n) 0 0 (l .offset)) ≡ false
+        in-own n g = ap overflows (own-sample ed (l .scale) (valueAt w first n) (l .offset)) ∙ h n g
+
+    -- WHERE EVERY POINT UP TO THE END IS IN RANGE, EVERY SAMPLE IS
+    points-in : ((n : ℕ) → n ≤ e → overflows (own l n) ≡ false) → (k : ℕ) → k ≤ total w first → overflows (sums k) ≡ false
+    points-in h k g = go (ltb k (total w first)) refl
+      where
+        go : (b : Bool) → ltb k (total w first) ≡ b → overflows (sums k) ≡ false
+        go false q = let s : k ≡ total w first = omega (arith, ltb-false) in ap (λ (i : ℕ). overflows (sums i)) s ∙ ap overflows last-own ∙ h e (omega arith)
+        go true q = place-in (placeOf w first k) k (all .within k (omega (arith, ltb-true))) h
+
 -- ---- a loop over the points: what is left from point n on is the whole
 
 module _ (w : List ℕ) (first : ℕ) (l : Loaded) (n : ℕ) (h : n < 64) where
@@ -177,7 +186,7 @@ module _ (w : List ℕ) (first : ℕ) (l : Loaded) (n : ℕ) (h : n < 64) where
   left-one = omega arith
 
   -- V is read, and its sample made
-  module _ {v : ℕ} {r : Sum} (read : v ≡ valueAt w first n) (made : r ≡ sampleOf (l .scale) v v 0 0 (l .offset)) where
+  module _ {v : ℕ} {r : Sum} (read : v ≡ valueAt w first n) (made : r ≡ sampleOf First (l .scale) v v 0 0 (l .offset)) where
     own-is : ownSum w first l n ≡ r
     own-is = rw (← read) (sym made)
 
@@ -212,28 +221,28 @@ module _ (ed : Edition) (s : List ℕ) (c level : ℕ) where
   abbrev ld : Loaded
   ld = loadedFor s c level
 
-  keeps-not : (k : ℕ) → k ≤ total s start → overflows (sums ed s start ld k) ≡ true → keeps ed s c level ≡ false
+  keeps-not : (k : ℕ) → k ≤ total s start → overflows (sums s start ed ld k) ≡ true → keeps ed s c level ≡ false
   unfolding keeps
-  keeps-not k h o = go (eachIn (sums ed s start ld) (total s start + 1)) refl
+  keeps-not k h o = go (eachIn (sums s start ed ld) (total s start + 1)) refl
     where
-      go : (b : Bool) → eachIn (sums ed s start ld) (total s start + 1) ≡ b → b ≡ false
+      go : (b : Bool) → eachIn (sums s start ed ld) (total s start + 1) ≡ b → b ≡ false
       go false q = refl
-      go true q = absurd (differ (overflows (sums ed s start ld k)) o (in-each (sums ed s start ld) (total s start + 1) q k (omega arith)))
+      go true q = absurd (differ (overflows (sums s start ed ld k)) o (in-each (sums s start ed ld) (total s start + 1) q k (omega arith)))
 
-  found-told : (o : Out) → Found ed s start ld 0 o → levelVerdict ed s c level ≡ told c level (ld .table) o
+  found-told : (o : Out) → Found s start ld 0 o → levelVerdict ed s c level ≡ told c level (ld .table) o
   unfolding levelVerdict keeps
   found-told _ (at m a b p d) =
-      let k : overflows (sums ed s start ld (stepsBefore s start m)) ≡ true = ap overflows (own-sum ed s start ld m b) ∙ p in
-      let f : firstOut (λ n. sums ed s start ld (stepsBefore s start n)) (endPoint s start) 0 ≡ m =
-      first-out (λ n. sums ed s start ld (stepsBefore s start n)) (endPoint s start) 0 m (omega arith) (omega arith) k
-      (λ i j g. ap overflows (own-sum ed s start ld i (omega arith)) ∙ d i j g) in
-      rw (keeps-not (stepsBefore s start m) (steps-most ed s start m b) k, f)
+      let k : overflows (sums s start ed ld (stepsBefore s start m)) ≡ true = ap overflows (own-sum s start ed ld m b) ∙ p in
+      let f : firstOut (λ n. sums s start ed ld (stepsBefore s start n)) (endPoint s start) 0 ≡ m =
+      first-out (λ n. sums s start ed ld (stepsBefore s start n)) (endPoint s start) 0 m (omega arith) (omega arith) k
+      (λ i j g. ap overflows (own-sum s start ed ld i (omega arith)) ∙ d i j g) in
+      rw (keeps-not (stepsBefore s start m) (steps-most s start m b) k, f)
   found-told _ (nowhere d) =
-      rw (each-in (sums ed s start ld) (total s start + 1) (λ k h. points-in ed s start ld (λ n g. d n (omega arith) g) k (omega arith)))
+      rw (each-in (sums s start ed ld) (total s start + 1) (λ k h. points-in s start ed ld (λ n g. d n (omega arith) g) k (omega arith)))
 
   -- POINTS UP TO THE RAMP'S END DECIDE
   by-points : levelVerdict ed s c level ≡ told c level (ld .table) (outFrom s start ld 64 0)
-  by-points = found-told _ (walk ed s start ld 63 0 (omega arith) (omega arith))
+  by-points = found-told _ (walk s start ld 63 0 (omega arith) (omega arith))
 
   -- of a call: what the maps give is read, and its points are walked over
   pub walked : {x : Loaded} {o : Out} → x ≡ ld → o ≡ outFrom s (tableAt c (x .table)) x 64 0 → (r : Out) → o ≡ r → told c level (x .table) r ≡ levelVerdict ed s c level
@@ -250,16 +259,16 @@ module _ (ed : Edition) (s : List ℕ) (c level : ℕ) where
     pub out : overflows (pointSum ed s c level (b .point)) ≡ true
     pub earlier : (n : ℕ) → n < b .point → overflows (pointSum ed s c level n) ≡ false
 
-  found-broken : (o : Out) → Found ed s start ld 0 o → (b : Break) → told c level (ld .table) o ≡ Breaks b → Broken b
+  found-broken : (o : Out) → Found s start ld 0 o → (b : Break) → told c level (ld .table) o ≡ Breaks b → Broken b
   found-broken _ (at m x y p d) b q =
       let e : _≡_ {A = Break} (record { channel = c; level = level; table = ld .table; point = m }) b = cc in
       subst Broken e (record {
         is = refl;
         point = y;
-        out = ap overflows (own-sum ed s start ld m y) ∙ p;
-        earlier = λ n h. ap overflows (own-sum ed s start ld n (omega arith)) ∙ d n (omega arith) h;
+        out = ap overflows (own-sum s start ed ld m y) ∙ p;
+        earlier = λ n h. ap overflows (own-sum s start ed ld n (omega arith)) ∙ d n (omega arith) h;
       })
   found-broken _ (nowhere d) b q = let z : _≡_ {A = ℕ} 0 1 = cc in absurd (omega arith)
 
   pub broken : (b : Break) → levelVerdict ed s c level ≡ Breaks b → Broken b
-  broken b e = found-broken _ (walk ed s start ld 63 0 (omega arith) (omega arith)) b (sym by-points ∙ e)
+  broken b e = found-broken _ (walk s start ld 63 0 (omega arith) (omega arith)) b (sym by-points ∙ e)

@@ -61,7 +61,7 @@ module _ (ed : Edition) (s : List ℕ) where
         levels = λ v l. level-in c v (y .earlier v (omega arith) l);
         table = refl;
         point = r .point;
-        sample = steps-most ed s (tableFor s c level) (b .point) (r .point);
+        sample = steps-most s (tableFor s c level) (b .point) (r .point);
         out = r .out;
         points = r .earlier;
       })

@@ -112,6 +112,10 @@ at-point ed S o a b (suc k) = rw (eqb·suc-zero k) (same-sum ed S o (along a b (
 pub point-sample : (ed : Edition) (scale from to step offset to′ left′ : ℕ) → sampleOf ed scale from to step step offset ≡ sampleOf ed scale from to′ 0 left′ offset
 point-sample ed scale from to step offset to′ left′ = ap settled (at-point ed (signedOf scale) (signedOf offset) (signedOf from) (signedOf to) step)
 
+-- a point's own sample is the same in every edition
+pub own-sample : (ed : Edition) (scale v offset : ℕ) → sampleOf ed scale v v 0 0 offset ≡ sampleOf First scale v v 0 0 offset
+own-sample ed scale v offset = ap settled (at-whole ed (signedOf scale) (signedOf offset) (signedOf v))
+
 -- ALONG A SEGMENT THE SUM GOES ONE WAY, over the samples left
 module _ (ed : Edition) (a b o : ℤ) (d : ℕ) (h : 0 < d) where
   by-sign : (S : ℤ) → (a ≤ℤ b) ⊎ (b ≤ℤ a) → Rises (λ m. sumOf ed S (along a b d m) o) ⊎ Falls (λ m. sumOf ed S (along a b d m) o)

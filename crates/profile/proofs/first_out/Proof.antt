@@ -45,8 +45,8 @@ get-requires c κs = search needs
 add-n : tie.Need-add-n Inv-loop μ-loop
 add-n c = search needs
 
-sample-requires : tie.Need-sample-requires Inv-loop μ-loop
-sample-requires c κs = search needs
+own-sum-requires : tie.Need-own-sum-requires Inv-loop μ-loop
+own-sum-requires c κs = search needs
 
 enum-told : tie.Need-enum-told Inv-loop μ-loop
 enum-told c = search needs
@@ -58,7 +58,7 @@ returns : tie.Need-returns Inv-loop μ-loop
 returns c =
     let a = c .before .before .before .before .before .before .before .before .args in
     let l = c .before .before .before .before .before .loop in
-    sym (here (a .settings .now) _ (a .loaded) (l .n) (omega arith) (c .before .before .before .get .ensures) (c .before .before .sample .ensures) (c .enum-told2 .given .1)) ∙ l .inv .1
+    sym (here (a .settings .now) _ (a .loaded) (l .n) (omega arith) (c .before .before .before .get .ensures) (c .before .before .own-sum .ensures) (c .enum-told2 .given .1)) ∙ l .inv .1
 
 cast-ends : tie.Need-cast-ends Inv-loop μ-loop
 cast-ends c = search needs
@@ -77,7 +77,7 @@ returns-2 c =
     let a = c .before .before .before .before .before .before .before .before .before .before .before .args in
     let s = c .before .before .before .before .before in
     let l = s .before .before .before .loop in
-    sym (end-here (a .settings .now) _ (a .loaded) (l .n) (omega arith) (s .before .get .ensures) (s .sample .ensures) (c .before .before .before .enum-told .given .1)
+    sym (end-here (a .settings .now) _ (a .loaded) (l .n) (omega arith) (s .before .get .ensures) (s .own-sum .ensures) (c .before .before .before .enum-told .given .1)
     (c .before .before .get2 .ensures) (c .before .ends .ensures) (c .if1 .taken))
     ∙ l .inv .1
 
@@ -90,7 +90,7 @@ loop-again c =
     let s = c .before .before .before .before .before in
     let l = s .before .before .before .loop in (
       search needs,
-      sym (not-here (a .settings .now) _ (a .loaded) (l .n) (omega arith) (s .before .get .ensures) (s .sample .ensures) (c .before .before .before .enum-told .given .1)
+      sym (not-here (a .settings .now) _ (a .loaded) (l .n) (omega arith) (s .before .get .ensures) (s .own-sum .ensures) (c .before .before .before .enum-told .given .1)
           (c .before .before .get2 .ensures) (c .before .ends .ensures) (c .if1 .left))
           ∙ l .inv .1,
     )
@@ -118,7 +118,7 @@ first-out-spec =
     add-at
     get-requires
     add-n
-    sample-requires
+    own-sum-requires
     enum-told
     enum-told-2
     returns

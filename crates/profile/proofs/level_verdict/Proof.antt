@@ -17,14 +17,14 @@ enum-known-point : tie.Need-enum-known-point
 enum-known-point c = search needs
 
 returns : tie.Need-returns
-returns c =
+returns c ed =
     let a = c .before .before .before .before .before .args in
-    walked (a .settings .now) (a .c) (a .level) (c .before .before .before .settings-for .ensures) (c .before .before .first-out .ensures) _ (c .enum-told .given .1)
+    walked ed (a .settings .now) (a .c) (a .level) (c .before .before .before .settings-for .ensures) (c .before .before .first-out .ensures) _ (c .enum-told .given .1)
 
 returns-2 : tie.Need-returns-2
-returns-2 c =
+returns-2 c ed =
     let a = c .before .before .before .before .before .before .args in
-    walked (a .settings .now) (a .c) (a .level) (c .before .before .before .before .settings-for .ensures) (c .before .before .before .first-out .ensures) _ (c .before .point .given .1)
+    walked ed (a .settings .now) (a .c) (a .level) (c .before .before .before .before .settings-for .ensures) (c .before .before .before .first-out .ensures) _ (c .before .point .given .1)
 
 pub level-verdict-spec : {M : Type 1} → statement M
 level-verdict-spec =
