@@ -53,7 +53,7 @@ pass4 p q r s = rw (p, q, r, s)
 
 module _ (st : State) where
   abbrev go : ℕ → List ℕ → Move
-  go i l = moveOf (st .settings) l i (channelOf (st .card) i)
+  go i l = moveOf (st .card .edition) (st .settings) l i (channelOf (st .card) i)
 
   move-on : (i : ℕ) {l l′ m : List ℕ} {t : Ticked} → l ≡ l′ → Moves t m (go i l) → Moves t m (go i l′)
   move-on i e s = record { handed = s .handed ∙ ap (λ (x : List ℕ). ticked (go i x)) e; tables = s .tables ∙ ap (λ (x : List ℕ). go i x .tables) e }
@@ -70,6 +70,6 @@ module _ (st : State) where
 -- ---- both passes
 
 -- a channel's output is made of its own sample, so it does not matter that the other ramps move in between
-pub two-passes : (w : List ℕ) (st : State) → bothPasses w st ≡ onAll (λ c l ch. tickOf (st .settings) w l c ch) (st .card) (st .tables)
+pub two-passes : (w : List ℕ) (st : State) → bothPasses w st ≡ onAll (λ c l ch. tickOf (st .card .edition) (st .settings) w l c ch) (st .card) (st .tables)
 unfolding firstPass secondPass onAll tickOf
 two-passes w st = refl

@@ -1,4 +1,4 @@
--- The card: four channels, the level counts, the active trigger and the pending one; beside it the lent words. The wave tables, which only
+-- The card: its edition, four channels, the level counts, the active trigger and the pending one; beside it the lent words. The wave tables, which only
 -- ticks read, are beside the state.
 use mathlib.Core.Path.{_≡_}
 use mathlib.Core.Bool.{Bool, _||_, cond}
@@ -55,16 +55,16 @@ channelOf k c = cond (ltb c 4) (getD (k .channels) c noChannel) noChannel
 
 -- the card with another channel c, with another count, with other channels
 abbrev pub withChannel : Card → ℕ → Channel → Card
-withChannel k c ch = cond (ltb c 4) (record { channels = set (k .channels) c ch; counts = k .counts; active = k .active; pending = k .pending }) k
+withChannel k c ch = cond (ltb c 4) (record { channels = set (k .channels) c ch; counts = k .counts; active = k .active; pending = k .pending; edition = k .edition }) k
 
 abbrev pub countOf : Card → ℕ → ℕ
 countOf k level = cond (ltb level 32) (getD (k .counts) level 0) 0
 
 abbrev pub withCount : Card → ℕ → ℕ → Card
-withCount k level n = cond (ltb level 32) (record { channels = k .channels; counts = set (k .counts) level n; active = k .active; pending = k .pending }) k
+withCount k level n = cond (ltb level 32) (record { channels = k .channels; counts = set (k .counts) level n; active = k .active; pending = k .pending; edition = k .edition }) k
 
 abbrev pub withChannels : Card → List Channel → Card
-withChannels k chs = record { channels = chs; counts = k .counts; active = k .active; pending = k .pending }
+withChannels k chs = record { channels = chs; counts = k .counts; active = k .active; pending = k .pending; edition = k .edition }
 
 -- what happens on each channel, one after the other, over the loaded tables
 pub record All : Type 0 where

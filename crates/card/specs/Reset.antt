@@ -1,8 +1,9 @@
--- 'After a reset'.
+-- 'After a reset'; and document 02, Six: 'The edition is chosen with the fresh card and survives a reset'.
 use mathlib.Core.List.{List, [], _∷_}
 use Prim.Native.Nat.{ℕ}
 use lib.ListN.{replicate}
 use Rattle.slots.specs.Slots.{filled, erased}
+use Rattle.sum.specs.declared.Edition.{Edition}
 use Rattle.map.specs.Addresses.{scaleAt}
 use Rattle.channel.specs.Channel.{resetChannel}
 use Rattle.card.specs.declared.Card.{Card}
@@ -25,14 +26,20 @@ unfoldable pub wavesReset : List ℕ → List ℕ
 wavesReset w = filled 4096 w 0 0
 
 -- '0x4211 .. 0xFE', 'all else 0', 'no countdown, no ramp'
-unfoldable pub cardReset : Card
-cardReset =
+unfoldable pub cardReset : Edition → Card
+cardReset edition =
     record {
       channels = resetChannel ∷ resetChannel ∷ resetChannel ∷ resetChannel ∷ [];
       counts = replicate 32 0;
       active = cause 0 0xFE;
       pending = cause 0 0xFE;
+      edition = edition;
     }
 
-abbrev pub resetOf : List ℕ → List ℕ → State
-resetOf s l = state cardReset (settingsReset s) (tablesReset l)
+-- a fresh card of an edition, whatever the lent words were before
+abbrev pub freshOf : Edition → List ℕ → List ℕ → State
+freshOf edition s l = state (cardReset edition) (settingsReset s) (tablesReset l)
+
+-- a reset makes a card fresh and keeps its edition
+abbrev pub resetOf : State → State
+resetOf st = freshOf (st .card .edition) (st .settings) (st .tables)

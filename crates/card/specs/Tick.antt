@@ -1,5 +1,5 @@
 -- 'A tick first advances every channel, then takes its event, if any.' Every channel is advanced in two passes (document 02, Two): all ramp
--- values move, then the outputs are made, with the wave tables w.
+-- values move, with the card's own edition, then the outputs are made, with the wave tables w.
 use mathlib.Core.List.{List, [], _∷_}
 use Prim.Native.Nat.{ℕ, zero, suc}
 use Rattle.channel.specs.declared.Channel.{Channel}
@@ -23,10 +23,10 @@ pub record Passed : Type 0 where
 
 unfoldable pub firstPass : State → Passed
 firstPass st =
-    let a : Move = moveOf (st .settings) (st .tables) 0 (channelOf (st .card) 0) in
-    let b : Move = moveOf (st .settings) (a .tables) 1 (channelOf (st .card) 1) in
-    let c : Move = moveOf (st .settings) (b .tables) 2 (channelOf (st .card) 2) in
-    let d : Move = moveOf (st .settings) (c .tables) 3 (channelOf (st .card) 3) in
+    let a : Move = moveOf (st .card .edition) (st .settings) (st .tables) 0 (channelOf (st .card) 0) in
+    let b : Move = moveOf (st .card .edition) (st .settings) (a .tables) 1 (channelOf (st .card) 1) in
+    let c : Move = moveOf (st .card .edition) (st .settings) (b .tables) 2 (channelOf (st .card) 2) in
+    let d : Move = moveOf (st .card .edition) (st .settings) (c .tables) 3 (channelOf (st .card) 3) in
     record { pass = record { zero = ticked a; one = ticked b; two = ticked c; three = ticked d }; tables = d .tables }
 
 -- the second pass

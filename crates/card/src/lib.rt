@@ -5,6 +5,7 @@ use channel::Loaded;
 use channel::Phase;
 use channel::Ticked;
 use slots::Holder;
+use sum::Edition;
 ghost use mathlib.Core.Path.{_≡_};
 ghost use mathlib.Core.Bool.{cond};
 ghost use Rattle.word.specs.Lent.{lent, left};
@@ -13,7 +14,7 @@ ghost use Rattle.card.specs.Card.{before, Leaves, LeavesWhole, LeavesAll
 ghost use Rattle.card.specs.Active.{cause, someLoaded, showing};
 ghost use Rattle.card.specs.Trigger.{counted, keeping, struck, triggerOf, acceptedOf, eventOf};
 ghost use Rattle.card.specs.Tick.{advanced, tickWith, ticks};
-ghost use Rattle.card.specs.Reset.{settingsReset, wavesReset, cardReset, resetOf};
+ghost use Rattle.card.specs.Reset.{settingsReset, wavesReset, cardReset, freshOf, resetOf};
 
 // What causes a ramp: an accepted trigger's level, and its event, 0xFE if manual.
 pub struct Cause {
@@ -21,22 +22,42 @@ pub struct Cause {
     pub event: u16,
 }
 
-// 0x4210 and 0x4211 show the active cause. The pending one is the last trigger's; a load makes it the active one.
+// 0x4210 and 0x4211 show the active cause. The pending one is the last trigger's; a load makes it the active one. The edition, which no
+// address shows, is chosen with the fresh card and never changes.
 pub struct Card {
     pub channels: [Channel; 4],
     pub counts: [u16; 32],
     pub active: Cause,
     pub pending: Cause,
+    pub edition: Edition,
 }
 
-// Settings, loaded tables, wave tables and card after a reset.
-pub fn reset(settings: &mut [u16; 16960], tables: &mut [u16; 512], waves: &mut [u16; 4096]) -> Card
-    ensures { λ r. ⌜ LeavesWhole (resetOf (lent settings) (lent tables)) r settings tables × (left waves ≡ wavesReset (lent waves)) ⌝ }
+// A fresh card of an edition: settings, loaded tables, wave tables and card as after a reset.
+pub fn fresh(
+    settings: &mut [u16; 16960],
+    tables: &mut [u16; 512],
+    waves: &mut [u16; 4096],
+    edition: Edition,
+) -> Card
+    ensures { λ r. ⌜ LeavesWhole (freshOf edition (lent settings) (lent tables)) r settings tables × (left waves ≡ wavesReset (lent waves)) ⌝ }
 {
     reset_settings(settings);
     slots::fill(tables, 0, 512, 0);
     slots::fill(waves, 0, 4096, 0);
-    fresh()
+    reset_card(edition)
+}
+
+// A reset: the card is fresh again, and of the same edition.
+pub fn reset(
+    settings: &mut [u16; 16960],
+    tables: &mut [u16; 512],
+    waves: &mut [u16; 4096],
+    card: Card,
+) -> Card
+    ensures { λ r. ⌜ LeavesWhole (resetOf (before card settings tables)) r settings tables × (left waves ≡ wavesReset (lent waves)) ⌝ }
+{
+    let edition = card.edition;
+    fresh(settings, tables, waves, edition)
 }
 
 // One tick: every channel moves on by a microsecond, then the event is taken. 0xFE is no event.
@@ -135,10 +156,11 @@ fn advance(
 ) -> Card
     ensures { λ r. ⌜ Leaves (advanced (lent waves) (before card settings tables)) r tables ⌝ }
 {
-    let a = channel::move_ramp(settings, tables, 0, card.channels[0]);
-    let b = channel::move_ramp(settings, tables, 1, card.channels[1]);
-    let c = channel::move_ramp(settings, tables, 2, card.channels[2]);
-    let d = channel::move_ramp(settings, tables, 3, card.channels[3]);
+    let edition = card.edition;
+    let a = channel::move_ramp(settings, tables, edition, 0, card.channels[0]);
+    let b = channel::move_ramp(settings, tables, edition, 1, card.channels[1]);
+    let c = channel::move_ramp(settings, tables, edition, 2, card.channels[2]);
+    let d = channel::move_ramp(settings, tables, edition, 3, card.channels[3]);
     let counts = card.counts;
     let active = card.active;
     let pending = card.pending;
@@ -152,6 +174,7 @@ fn advance(
         counts: counts,
         active: active,
         pending: pending,
+        edition: edition,
     })
 }
 
@@ -178,11 +201,13 @@ fn strike(settings: &[u16; 16960], tables: &mut [u16; 512], card: Card, level: u
     let counts = card.counts;
     let active = card.active;
     let pending = card.pending;
+    let edition = card.edition;
     Card {
         channels: [a, b, c, d],
         counts: counts,
         active: active,
         pending: pending,
+        edition: edition,
     }
 }
 
@@ -193,6 +218,7 @@ fn keep(card: Card, level: u16, event: u16) -> Card
     let channels = card.channels;
     let counts = card.counts;
     let active = card.active;
+    let edition = card.edition;
     Card {
         channels: channels,
         counts: counts,
@@ -201,6 +227,7 @@ fn keep(card: Card, level: u16, event: u16) -> Card
             level: level,
             event: event,
         },
+        edition: edition,
     }
 }
 
@@ -213,11 +240,13 @@ fn show(card: Card) -> Card
     let counts = card.counts;
     let active = card.active;
     let pending = card.pending;
+    let edition = card.edition;
     Card {
         channels: channels,
         counts: counts,
         active: either(loaded, pending, active),
         pending: pending,
+        edition: edition,
     }
 }
 
@@ -309,8 +338,9 @@ fn no_channel() -> Channel
     }
 }
 
-fn fresh() -> Card
-    ensures { λ r. ⌜ r ≡ cardReset ⌝ }
+// The card itself after a reset.
+fn reset_card(edition: Edition) -> Card
+    ensures { λ r. ⌜ r ≡ cardReset edition ⌝ }
 {
     let ch = channel::fresh();
     Card {
@@ -324,5 +354,6 @@ fn fresh() -> Card
             level: 0,
             event: 0xFE,
         },
+        edition: edition,
     }
 }

@@ -1,24 +1,26 @@
 -- `card::fresh` meets its contract. Assumes nothing.
 use borrow.Author.Needs.{needs}
-use mathlib.Core.Path.{ap}
-use mathlib.Core.List.{[], _∷_}
-use lib.ListN.{replicate}
-use Rattle.channel.specs.declared.Channel.{Channel}
-use Rattle.card.specs.declared.Card.{Card}
-use Rattle.card.specs.Active.{cause}
-use Rattle.card.specs.Reset.{cardReset}
+use Rattle.card.specs.Reset.{tablesReset, wavesReset}
 use Rattle.card.proofs.fresh.Statement.{statement}
 use Rattle.card.proofs.fresh.Tie as tie
 
-abbrev cardOf : Channel → Card
-cardOf ch = record { channels = ch ∷ ch ∷ ch ∷ ch ∷ []; counts = replicate 32 0; active = cause 0 0xFE; pending = cause 0 0xFE }
+reset-settings-requires : tie.Need-reset-settings-requires
+reset-settings-requires c κs = search needs
 
-fresh-requires : tie.Need-fresh-requires
-fresh-requires c κs = search needs
+fill-requires : tie.Need-fill-requires
+fill-requires c κs = search needs
+
+fill-requires-2 : tie.Need-fill-requires-2
+fill-requires-2 c κs = search needs
+
+reset-card-requires : tie.Need-reset-card-requires
+reset-card-requires c κs = search needs
 
 returns : tie.Need-returns
-unfolding cardReset
-returns c = ap cardOf (c .fresh .ensures)
+unfolding tablesReset wavesReset
+returns c = ((c .reset-card .ensures, c .before .before .before .before .before .reset-settings .ensures, c .before .before .before .fill .ensures), c .before .fill2 .ensures)
 
 pub fresh-spec : {M : Type 1} → statement M
-fresh-spec = tie.close (tie.spec fresh-requires returns)
+fresh-spec =
+    tie.close
+    (tie.spec reset-settings-requires fill-requires fill-requires-2 reset-card-requires returns)
