@@ -12,9 +12,10 @@ use lib.ListN.{length, set, take, drop, replicate, length-append, length-set, le
 use lib.Seq.{take-suc-set, take-all, take-append-le, length-take-le}
 use Rattle.word.specs.Every.{every}
 use Rattle.digits.specs.Digits.{allDigits, byteAt, wordAt, hex2, hex4, hexAll}
+use Rattle.sum.specs.declared.Edition.the-variants.{First}
 use Rattle.card.specs.declared.Card.{Card}
 use Rattle.card.specs.Card.{State, state}
-use Rattle.card.specs.Reset.{wavesReset, resetOf}
+use Rattle.card.specs.Reset.{wavesReset, freshOf}
 use Rattle.card.specs.Tick.{tickWith, ticks}
 use Rattle.transfer.specs.Transfer.{Out, Filled, numberOf, processedOf, writeOf, readOf}
 use Rattle.line.specs.declared.Frame.{Frame}
@@ -223,11 +224,11 @@ module _ (w : List ℕ) (room : ℕ) (r : longest ≤ room) where
 -- THE SESSION: whatever the chunks, what is written is the session's answers to the whole input; the open line has room for 263 bytes,
 -- as every call's has by type
 pub chunks-give-session : (room : ℕ) → longest ≤ room → (cs : List (List ℕ)) (settings tables waves line : List ℕ) → most ≤ length line
-    → writtenOf (wavesReset waves) room (flow (resetOf settings tables) line 0 []) cs ≡ session settings tables waves (joined cs)
+    → writtenOf (wavesReset waves) room (flow (freshOf First settings tables) line 0 []) cs ≡ session settings tables waves (joined cs)
 unfolding session
 chunks-give-session room r cs settings tables waves line h =
     let w : List ℕ = wavesReset waves in
-    let t : Flow = flow (resetOf settings tables) line 0 [] in
+    let t : Flow = flow (freshOf First settings tables) line 0 [] in
     written-is w room r cs t ∙ fed-all w room r (joined cs) t [] (record { size = h; fits = omega arith; same = refl }) .0
 
 -- ---- one answer line for each line
@@ -293,7 +294,7 @@ ends-answers w st (l ∷ ls) =
 -- EACH LINE GETS AN ANSWER: as many answer lines as lines
 pub line-for-line : (settings tables waves s : List ℕ) → endsIn (session settings tables waves s) ≡ length (linesOf s)
 unfolding session
-line-for-line settings tables waves s = ends-answers (wavesReset waves) (resetOf settings tables) (linesOf s)
+line-for-line settings tables waves s = ends-answers (wavesReset waves) (freshOf First settings tables) (linesOf s)
 
 -- ---- the promises determine all that a caller sees
 

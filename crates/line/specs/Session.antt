@@ -8,9 +8,10 @@ use lib.Dec.{eqb, ltb, leb}
 use lib.ListN.{length, take, drop, set}
 use lib.Seq.{sets}
 use Rattle.word.specs.Lent.{Lent, lent, left}
+use Rattle.sum.specs.declared.Edition.the-variants.{First}
 use Rattle.card.specs.declared.Card.{Card}
 use Rattle.card.specs.Card.{State, state}
-use Rattle.card.specs.Reset.{wavesReset, resetOf}
+use Rattle.card.specs.Reset.{wavesReset, freshOf}
 use Rattle.line.specs.declared.Answered.{Answered}
 use Rattle.line.specs.declared.Stream.{Stream}
 use Rattle.line.specs.Answer.{stepOf}
@@ -37,9 +38,9 @@ unfoldable pub playedOf : List ℕ → State → List (List ℕ) → State
 playedOf w st [] = st
 playedOf w st (l ∷ ls) = playedOf w (stepOf w st l .state) ls
 
--- 'from standard input on a reset card', whatever the lent words were before the reset
+-- 'from standard input on a reset card', whatever the lent words were before; 'the line program's card is edition 1' (document 02, Six)
 unfoldable pub session : List ℕ → List ℕ → List ℕ → List ℕ → List ℕ
-session settings tables waves input = answersOf (wavesReset waves) (resetOf settings tables) (linesOf input)
+session settings tables waves input = answersOf (wavesReset waves) (freshOf First settings tables) (linesOf input)
 
 -- ---- byte by byte
 

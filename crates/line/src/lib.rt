@@ -1,5 +1,6 @@
 // Lines: frames of hexadecimal, their answers, and the stream of lines over one card.
 use card::Card;
+use sum::Edition;
 ghost use mathlib.Core.Path.{_≡_};
 ghost use mathlib.Core.List.{[]};
 ghost use Prim.Native.Nat.{_+_, _^_, _≤_, _<_};
@@ -7,8 +8,9 @@ ghost use lib.ListN.{replicate};
 ghost use lib.Seq.{sets};
 ghost use Rattle.word.specs.Lent.{lent, left};
 ghost use Rattle.digits.specs.Digits.{hex2};
+ghost use Rattle.sum.specs.declared.Edition.the-variants.{First};
 ghost use Rattle.card.specs.Card.{before, LeavesWhole, channelOf};
-ghost use Rattle.card.specs.Reset.{wavesReset, resetOf};
+ghost use Rattle.card.specs.Reset.{wavesReset, freshOf};
 ghost use Rattle.transfer.specs.Transfer.{writeOf, readOf};
 ghost use Rattle.line.specs.Frame.{wordsOf, frameOf, writeFrame, readFrame, ticksFrame, eventFrame};
 ghost use Rattle.line.specs.Answer.{refusedIn, headOf, wrote, readText, outputsOf, outputsText, onFrame, stepOf, Puts, Gives};
@@ -38,11 +40,11 @@ pub struct Stream {
     pub taken: usize,
 }
 
-// The reset card on which a session starts.
+// The fresh card on which a session starts: edition 1.
 pub fn start(settings: &mut [u16; 16960], tables: &mut [u16; 512], waves: &mut [u16; 4096]) -> Card
-    ensures { λ r. ⌜ LeavesWhole (resetOf (lent settings) (lent tables)) r settings tables × (left waves ≡ wavesReset (lent waves)) ⌝ }
+    ensures { λ r. ⌜ LeavesWhole (freshOf First (lent settings) (lent tables)) r settings tables × (left waves ≡ wavesReset (lent waves)) ⌝ }
 {
-    card::reset(settings, tables, waves)
+    card::fresh(settings, tables, waves, Edition::First)
 }
 
 // Bytes of a chunk, one after the other, as long as `out` has room for one more answer.

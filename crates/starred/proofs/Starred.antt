@@ -8,6 +8,7 @@ use native.Mathlib.Nat.{zero-add, suc-add}
 use native.Mathlib.Omega.{arith}
 use lib.ListN.{set}
 use lib.Seq.{getD-set-other}
+use Rattle.sum.specs.declared.Edition.{Edition}
 use Rattle.sum.specs.Starred as samples
 use Rattle.sum.proofs.Starred.{as-starred}
 use Rattle.map.specs.Map.{channelRows, cardRows, block, regions, scan}
@@ -28,44 +29,44 @@ use Rattle.starred.specs.Starred.{Comes, ticked, Holding, Answers, Case,
 
 -- ---- delays
 
-module _ (s w l : List ℕ) (c : ℕ) (ch : Channel) (level : ℕ) where
+module _ (ed : Edition) (s w l : List ℕ) (c : ℕ) (ch : Channel) (level : ℕ) where
   -- from a load at once
-  from-load : (d : ℕ) → word s (delayAt c level) ≡ d → d ≤ 10 → ticked 0 s w c (triggered s l c ch level) ≡ load s l c ch level
+  from-load : (d : ℕ) → word s (delayAt c level) ≡ d → d ≤ 10 → ticked ed 0 s w c (triggered s l c ch level) ≡ load s l c ch level
   unfolding ticked
   from-load d e h = at-once s l c ch level (omega arith)
 
   -- from 11 the first tick loads
-  first-tick : word s (delayAt c level) ≡ 11 → ticked 1 s w c (triggered s l c ch level) ≡ load s l c ch level
+  first-tick : word s (delayAt c level) ≡ 11 → ticked ed 1 s w c (triggered s l c ch level) ≡ load s l c ch level
   unfolding ticked tickOf moveAt countTo load makeOf
   first-tick e = rw (later s l c ch level (omega arith), e)
 
 -- ticks add up
-ticked-add : (a b : ℕ) (s w : List ℕ) (c : ℕ) (x : Side) → ticked (a + b) s w c x ≡ ticked b s w c (ticked a s w c x)
+ticked-add : (ed : Edition) (a b : ℕ) (s w : List ℕ) (c : ℕ) (x : Side) → ticked ed (a + b) s w c x ≡ ticked ed b s w c (ticked ed a s w c x)
 unfolding ticked
-ticked-add zero b s w c x = ap (λ (n : ℕ). ticked n s w c x) (zero-add b)
-ticked-add (suc a) b s w c x = ap (λ (n : ℕ). ticked n s w c x) (suc-add a b) ∙ ticked-add a b s w c (tickOf s w (x .tables) c (x .channel))
+ticked-add ed zero b s w c x = ap (λ (n : ℕ). ticked ed n s w c x) (zero-add b)
+ticked-add ed (suc a) b s w c x = ap (λ (n : ℕ). ticked ed n s w c x) (suc-add a b) ∙ ticked-add ed a b s w c (tickOf ed s w (x .tables) c (x .channel))
 
 -- ten ticks after a load the channel starts
-abbrev started : List ℕ → List ℕ → ℕ → List ℕ → Side → Side
-started s w c l x = soundedSide w c (start s l c (x .channel))
+abbrev started : Edition → List ℕ → List ℕ → ℕ → List ℕ → Side → Side
+started ed s w c l x = soundedSide w c (start ed s l c (x .channel))
 
-ten-more : (s w l : List ℕ) (c : ℕ) (ch : Channel) (level : ℕ)
-    → ticked 10 s w c (load s l c ch level) ≡ started s w c (load s l c ch level .tables) (ticked 9 s w c (load s l c ch level))
+ten-more : (ed : Edition) (s w l : List ℕ) (c : ℕ) (ch : Channel) (level : ℕ)
+    → ticked ed 10 s w c (load s l c ch level) ≡ started ed s w c (load s l c ch level .tables) (ticked ed 9 s w c (load s l c ch level))
 unfolding ticked tickOf moveAt countTo advance load makeOf
-ten-more s w l c ch level = refl
+ten-more ed s w l c ch level = refl
 
 -- a load on tick n leads to a start on tick n + 10
-comes : (d n : ℕ) → ((s w l : List ℕ) (c : ℕ) (ch : Channel) (level : ℕ) → word s (delayAt c level) ≡ d → ticked n s w c (triggered s l c ch level) ≡ load s l c ch level)
+comes : (d n : ℕ) → ((ed : Edition) (s w l : List ℕ) (c : ℕ) (ch : Channel) (level : ℕ) → word s (delayAt c level) ≡ d → ticked ed n s w c (triggered s l c ch level) ≡ load s l c ch level)
     → Comes (record { delay = d; loads = n; starts = n + 10 })
 comes d n f = record {
   load-on = f;
-  start-on = λ s w l c ch level e.
+  start-on = λ ed s w l c ch level e.
       let x = triggered s l c ch level in
       let y = load s l c ch level in
-      let q = f s w l c ch level e in
+      let q = f ed s w l c ch level e in
       let m : n + 10 - 1 ≡ n + 9 = omega arith in
-      let nine : ticked (n + 10 - 1) s w c x ≡ ticked 9 s w c y = ap (λ (k : ℕ). ticked k s w c x) m ∙ ticked-add n 9 s w c x ∙ ap (ticked 9 s w c) q in
-      ticked-add n 10 s w c x ∙ ap (ticked 10 s w c) q ∙ ten-more s w l c ch level ∙ ap (started s w c (y .tables)) (sym nine);
+      let nine : ticked ed (n + 10 - 1) s w c x ≡ ticked ed 9 s w c y = ap (λ (k : ℕ). ticked ed k s w c x) m ∙ ticked-add ed n 9 s w c x ∙ ap (ticked ed 9 s w c) q in
+      ticked-add ed n 10 s w c x ∙ ap (ticked ed 10 s w c) q ∙ ten-more ed s w l c ch level ∙ ap (started ed s w c (y .tables)) (sym nine);
 }
 
 -- ---- transfers
@@ -120,4 +121,4 @@ each-sample (c ∷ cs) rest e h = (cc-head e, each-sample cs rest (cc-tail e) h)
 pub as-stated : (v : ℕ) → Each (starred v)
 as-stated v =
     each-sample samples.starredSamples (others v) as-starred
-    (comes 0 0 (λ s w l c ch level e. from-load s w l c ch level 0 e (omega arith)), (comes 10 0 (λ s w l c ch level e. from-load s w l c ch level 10 e (omega arith)), (comes 11 1 first-tick, ((λ st g. first st), ((λ st g. second v st), (third, tt))))))
+    (comes 0 0 (λ ed s w l c ch level e. from-load ed s w l c ch level 0 e (omega arith)), (comes 10 0 (λ ed s w l c ch level e. from-load ed s w l c ch level 10 e (omega arith)), (comes 11 1 first-tick, ((λ st g. first st), ((λ st g. second v st), (third, tt))))))

@@ -3,6 +3,7 @@ use mathlib.Core.Path.{_≡_}
 use mathlib.Core.List.{List, [], _∷_, _++_, map}
 use Prim.Native.Nat.{ℕ, zero, suc, _-_, _<_}
 use lib.ListN.{length, getD}
+use Rattle.sum.specs.declared.Edition.{Edition}
 use Rattle.sum.specs.Starred as samples
 use Rattle.slots.specs.Slots.{slotOf}
 use Rattle.map.specs.Addresses.{delayAt}
@@ -18,17 +19,17 @@ pub record Delay : Type 0 where
   pub loads : ℕ
   pub starts : ℕ
 
--- n ticks of one channel under settings s and wave tables w that stay
-unfoldable pub ticked : ℕ → List ℕ → List ℕ → ℕ → Side → Side
-ticked zero s w c x = x
-ticked (suc n) s w c x = ticked n s w c (tickOf s w (x .tables) c (x .channel))
+-- n ticks of one channel of a card of an edition, under settings s and wave tables w that stay
+unfoldable pub ticked : Edition → ℕ → List ℕ → List ℕ → ℕ → Side → Side
+ticked edition zero s w c x = x
+ticked edition (suc n) s w c x = ticked edition n s w c (tickOf edition s w (x .tables) c (x .channel))
 
 -- whatever the channel does, a trigger of a level with this delay leads to a load on its tick and to a start on its tick
 pub record Comes (d : Delay) : Type 0 where
-  pub load-on : (s w l : List ℕ) (c : ℕ) (ch : Channel) (level : ℕ) → word s (delayAt c level) ≡ d .delay
-      → ticked (d .loads) s w c (triggered s l c ch level) ≡ load s l c ch level
-  pub start-on : (s w l : List ℕ) (c : ℕ) (ch : Channel) (level : ℕ) → word s (delayAt c level) ≡ d .delay
-      → ticked (d .starts) s w c (triggered s l c ch level) ≡ soundedSide w c (start s (load s l c ch level .tables) c (ticked (d .starts - 1) s w c (triggered s l c ch level) .channel))
+  pub load-on : (edition : Edition) (s w l : List ℕ) (c : ℕ) (ch : Channel) (level : ℕ) → word s (delayAt c level) ≡ d .delay
+      → ticked edition (d .loads) s w c (triggered s l c ch level) ≡ load s l c ch level
+  pub start-on : (edition : Edition) (s w l : List ℕ) (c : ℕ) (ch : Channel) (level : ℕ) → word s (delayAt c level) ≡ d .delay
+      → ticked edition (d .starts) s w c (triggered s l c ch level) ≡ soundedSide w c (start edition s (load s l c ch level .tables) c (ticked edition (d .starts - 1) s w c (triggered s l c ch level) .channel))
 
 -- ---- a transfer: words written from a start on, to a state of which something is given
 
