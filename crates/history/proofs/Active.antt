@@ -8,6 +8,7 @@ use native.Mathlib.Omega.{arith}
 use lib.Dec.{eqb, leb, leb·suc-suc, leb·suc-zero}
 use lib.ListN.{length}
 use borrow.Author.Tests.{eq-eqb, ne-eqb, eqb-true, eqb-false, le-leb, leb-true, leb-false}
+use Rattle.sum.specs.declared.Edition.{Edition}
 use Rattle.map.specs.Addresses.{delayAt}
 use Rattle.slots.specs.declared.Holder.{Holder}
 use Rattle.slots.specs.declared.Holder.the-variants.{Level, Nobody}
@@ -17,7 +18,7 @@ use Rattle.card.specs.declared.Card.{Card}
 use Rattle.card.specs.Card.{State, channelOf}
 use Rattle.card.specs.Active.{cause}
 use Rattle.card.specs.Tick.{advanced}
-use Rattle.card.specs.Reset.{cardReset, resetOf}
+use Rattle.card.specs.Reset.{cardReset, freshOf}
 use Rattle.transfer.specs.Transfer.{writeOf}
 use Rattle.course.proofs.Copies.{choose}
 use Rattle.history.specs.History.{Act, Tick, Write, Ask, HandIn, Reset, act, acts, wordsDone, manualAmong, triggerBy, isReset, Quiet, ticksIn}
@@ -140,10 +141,10 @@ reads st = rw (level-register, event-register)
 -- 0x4210 AND 0x4211 SHOW THE LAST ACCEPTED TRIGGER AFTER WHICH SOME CHANNEL HAS LOADED
 pub active-right : ActiveRight
 unfolding ActiveRight cardReset
-active-right s l xs =
-    reads (acts (resetOf s l) xs)
-    ∙ acts-shown (resetOf s l) xs
-    ∙ ap (lastLoaded (resetOf s l) xs) (choose (λ (x : Cause). x ≡ atReset) (loadsIn (resetOf s l) xs) atReset atReset refl refl)
+active-right ed s l xs =
+    reads (acts (freshOf ed s l) xs)
+    ∙ acts-shown (freshOf ed s l) xs
+    ∙ ap (lastLoaded (freshOf ed s l) xs) (choose (λ (x : Cause). x ≡ atReset) (loadsIn (freshOf ed s l) xs) atReset atReset refl refl)
 
 -- ---- a trigger on its way
 
@@ -214,7 +215,7 @@ module _ (waves : List ℕ) (st : State) where
   left c = toStart (channelOf (st .card) c .phase)
 
   reached : (c : ℕ) → loadAmong (inTick waves st c) ≡ loadsAt (left c - 1)
-  reached c = tick-loads waves (st .settings) (st .tables) c (channelOf (st .card) c) (channelOf (st .card) c .phase)
+  reached c = tick-loads (st .card .edition) waves (st .settings) (st .tables) c (channelOf (st .card) c) (channelOf (st .card) c .phase)
 
   -- the first load comes on the next tick
   next-loads : First st 0 → loadsByCounting waves st ≡ true

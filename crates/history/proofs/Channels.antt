@@ -17,6 +17,7 @@ use Rattle.word.specs.Table.{stepAt, isEnd}
 use Rattle.map.specs.Register.{isMode}
 use Rattle.map.specs.Addresses.{tableAt, rampMapAt, scaleMapAt, scaleAt, offsetMapAt, offsetAt, delayAt, frequencyMapAt, frequencyAt, phaseMapAt, phaseAt, enableAt, modeAt}
 use Rattle.map.proofs.Values.{accepted-is}
+use Rattle.sum.specs.declared.Edition.{Edition}
 use Rattle.sum.specs.declared.Sum.{Sum}
 use Rattle.sum.specs.declared.Sum.the-variants.{Word, Overflow}
 use Rattle.sum.specs.declared.Side.the-variants.{Below, Within, Above}
@@ -111,9 +112,9 @@ record RampRight (l : Loaded) (r : Ramp) : Type 0 where
   free : isFree r ≡ true → freeRuns (l .tone .mode) ≡ true
 
 module _ (w : List ℕ) (first : ℕ) (l : Loaded) where
-  sample-small : (p : Place) → SmallSum (sampleAt w first l p)
+  sample-small : (ed : Edition) (p : Place) → SmallSum (sampleAt ed w first l p)
   unfolding sampleAt
-  sample-small p = choose SmallSum (eqb (p .left .0) 0) _ _ (settled-small _) (settled-small _)
+  sample-small ed p = choose SmallSum (eqb (p .left .0) 0) _ _ (settled-small _) (settled-small _)
 
   record MovedSound (m : Moved) : Type 0 where
     ramp : RampRight l (m .ramp)
@@ -123,13 +124,13 @@ module _ (w : List ℕ) (first : ℕ) (l : Loaded) where
   still-right : RampRight l Still
   still-right = record { sound = tt; free = λ e. absurd (true≢false (sym e)) }
 
-  given-sound : (isFirst : Bool) (p : Place) (s : Shown) → At p → ShownSound s → MovedSound (given isFirst w first l 10 p s)
+  given-sound : (ed : Edition) (isFirst : Bool) (p : Place) (s : Shown) → At p → ShownSound s → MovedSound (given ed isFirst w first l 10 p s)
   unfolding given ended
-  given-sound isFirst p s a h =
+  given-sound ed isFirst p s a h =
       record {
         ramp = go (eqb (p .left .0) 0) refl (freeRuns (l .tone .mode)) refl;
-        shown = record { amplitude = hold-small (sampleAt w first l p) (s .amplitude) (sample-small p) (h .amplitude); segment = a .placed .most; left = a .small };
-        gave = sample-small p;
+        shown = record { amplitude = hold-small (sampleAt ed w first l p) (s .amplitude) (sample-small ed p) (h .amplitude); segment = a .placed .most; left = a .small };
+        gave = sample-small ed p;
       }
     where
       go : (b : Bool) → eqb (p .left .0) 0 ≡ b → (f : Bool) → freeRuns (l .tone .mode) ≡ f → RampRight l (cond b (cond f (Free (way p 10 10)) Still) (Going (way p 10 10)))
@@ -163,13 +164,13 @@ module _ (w : List ℕ) (first : ℕ) (l : Loaded) where
   next-at : (p : Place) → p .segment < 63 → p .left .0 < 65536 → ((i : ℕ) → word w i < 65536) → At (next w first p)
   next-at p h g f = record { placed = placed-next w first p h; small = next-small p g f }
 
-  advance-sound : (r : Ramp) (s : Shown) → ((i : ℕ) → word w i < 65536) → RampRight l r → ShownSound s → MovedSound (advance w first l r s)
+  advance-sound : (ed : Edition) (r : Ramp) (s : Shown) → ((i : ℕ) → word w i < 65536) → RampRight l r → ShownSound s → MovedSound (advance ed w first l r s)
   unfolding advance
-  advance-sound Still s f g h = record { ramp = still-right; shown = h; gave = tt }
-  advance-sound (Going r) s f g h = go (ltb 1 (r .wait .0)) refl
+  advance-sound ed Still s f g h = record { ramp = still-right; shown = h; gave = tt }
+  advance-sound ed (Going r) s f g h = go (ltb 1 (r .wait .0)) refl
     where
       go : (b : Bool) → ltb 1 (r .wait .0) ≡ b
-          → MovedSound (cond b (unsampled (Going (sooner r)) s) (given false w first l (r .period .0) (next w first (r .place)) s))
+          → MovedSound (cond b (unsampled (Going (sooner r)) s) (given ed false w first l (r .period .0) (next w first (r .place)) s))
       go true e =
           let d = ltb-true 1 (r .wait .0) e in
           let k = g .sound in
@@ -182,8 +183,8 @@ module _ (w : List ℕ) (first : ℕ) (l : Loaded) where
             shown = h;
             gave = tt;
           }
-      go false e = rw (g .sound .period) (given-sound false (next w first (r .place)) s (next-at (r .place) (g .sound .inner) (g .sound .small) f) h)
-  advance-sound (Free r) s f g h = go (ltb 1 (r .wait .0)) refl
+      go false e = rw (g .sound .period) (given-sound ed false (next w first (r .place)) s (next-at (r .place) (g .sound .inner) (g .sound .small) f) h)
+  advance-sound ed (Free r) s f g h = go (ltb 1 (r .wait .0)) refl
     where
       go : (b : Bool) → ltb 1 (r .wait .0) ≡ b
           → MovedSound (cond b (unsampled (Free (sooner r)) s) (record { ramp = Free (way (r .place) (r .period .0) (r .period .0)); shown = s; gave = OfFreeRun }))
@@ -203,9 +204,9 @@ module _ (w : List ℕ) (first : ℕ) (l : Loaded) where
             gave = tt;
           }
 
-  advance-still : (r : Ramp) (s : Shown) → r ≡ Still → advance w first l r s .ramp ≡ Still
+  advance-still : (ed : Edition) (r : Ramp) (s : Shown) → r ≡ Still → advance ed w first l r s .ramp ≡ Still
   unfolding advance
-  advance-still r s e = rw e
+  advance-still ed r s e = rw e
 
 -- ---- a channel with the loaded tables beside it
 
@@ -329,36 +330,36 @@ module _ (s : List ℕ) (w : Words s) (l : List ℕ) (c : ℕ) (inside : c < 4) 
         gave = k .gave;
       }
 
-  start-sound : MoveSound (start s l c ch)
+  start-sound : (ed : Edition) → MoveSound (start ed s l c ch)
   unfolding start
-  start-sound =
-      let m = given-sound l (firstOf c) (ch .loaded) true (enter l (firstOf c) 0) (ch .shown) (enter-at l (firstOf c) (ch .loaded) 0 (omega arith) (t .small)) (h .shown) in
+  start-sound ed =
+      let m = given-sound l (firstOf c) (ch .loaded) ed true (enter l (firstOf c) 0) (ch .shown) (enter-at l (firstOf c) (ch .loaded) 0 (omega arith) (t .small)) (h .shown) in
       choose MoveSound (eqb (word s (enableAt c)) 1) _ _ (moved-sound _ m)
       (quiet-sound (side (with ch Rest (ch .shown)) l)
       (record { channel = with-sound ch Rest (ch .shown) h tt (λ e. absurd (true≢false (sym e))) (h .shown); tables = t }))
 
-  count-sound : (n : ℕ) (older : Ramp) → Countdown n older → (isFree older ≡ true → freeRuns (ch .loaded .tone .mode) ≡ true) → MoveSound (countTo (n - 1) older s l c ch)
+  count-sound : (ed : Edition) (n : ℕ) (older : Ramp) → Countdown n older → (isFree older ≡ true → freeRuns (ch .loaded .tone .mode) ≡ true) → MoveSound (countTo ed (n - 1) older s l c ch)
   unfolding countTo
-  count-sound n older k r = go (eqb (n - 1) 0) refl (loadsAt (n - 1)) refl
+  count-sound ed n older k r = go (eqb (n - 1) 0) refl (loadsAt (n - 1)) refl
     where
       o : Moved
-      o = advance l (firstOf c) (ch .loaded) older (ch .shown)
+      o = advance ed l (firstOf c) (ch .loaded) older (ch .shown)
 
       go : (a : Bool) → eqb (n - 1) 0 ≡ a → (b : Bool) → loadsAt (n - 1) ≡ b
-          → MoveSound (cond a (start s l c ch) (cond b (quiet (load s l c ch (ch .level))) (move (with ch (Counting (record { 0 = n - 1 }) (o .ramp)) (o .shown)) l (o .gave))))
-      go true e b f = start-sound
+          → MoveSound (cond a (start ed s l c ch) (cond b (quiet (load s l c ch (ch .level))) (move (with ch (Counting (record { 0 = n - 1 }) (o .ramp)) (o .shown)) l (o .gave))))
+      go true e b f = start-sound ed
       go false e true f = quiet-sound (load s l c ch (ch .level)) (load-sound (ch .level) (h .level))
       go false e false f =
           let d = eqb-false (n - 1) 0 e in
           let g = eqb-false (n - 1) lead f in
-          let m = advance-sound l (firstOf c) (ch .loaded) older (ch .shown) (t .small) (record { sound = k .ramp; free = r }) (h .shown) in
+          let m = advance-sound l (firstOf c) (ch .loaded) ed older (ch .shown) (t .small) (record { sound = k .ramp; free = r }) (h .shown) in
           record {
             channel =
                 with-sound ch (Counting (record { 0 = n - 1 }) (o .ramp)) (o .shown) h
                 (record {
                   some = omega arith;
                   small = omega (arith, k .small);
-                  alone = λ i. advance-still l (firstOf c) (ch .loaded) older (ch .shown) (k .alone (omega arith));
+                  alone = λ i. advance-still l (firstOf c) (ch .loaded) ed older (ch .shown) (k .alone (omega arith));
                   ramp = m .ramp .sound;
                 })
                 (m .ramp .free) (m .shown);
@@ -366,22 +367,22 @@ module _ (s : List ℕ) (w : Words s) (l : List ℕ) (c : ℕ) (inside : c < 4) 
             gave = m .gave;
           }
 
-  move-in : (p : Phase) → PhaseSound p → (isFree (rampOf p) ≡ true → freeRuns (ch .loaded .tone .mode) ≡ true) → MoveSound (moveAt p s l c ch)
+  move-in : (ed : Edition) (p : Phase) → PhaseSound p → (isFree (rampOf p) ≡ true → freeRuns (ch .loaded .tone .mode) ≡ true) → MoveSound (moveAt ed p s l c ch)
   unfolding moveAt
-  move-in Rest k r = quiet-sound (side ch l) (record { channel = h; tables = t })
-  move-in (Counting n older) k r = count-sound (n .0) older k r
-  move-in (Running x) k r =
-      moved-sound _ (advance-sound l (firstOf c) (ch .loaded) (Going x) (ch .shown) (t .small) (record { sound = k; free = r }) (h .shown))
-  move-in (FreeRunning x) k r =
-      moved-sound _ (advance-sound l (firstOf c) (ch .loaded) (Free x) (ch .shown) (t .small) (record { sound = k; free = r }) (h .shown))
+  move-in ed Rest k r = quiet-sound (side ch l) (record { channel = h; tables = t })
+  move-in ed (Counting n older) k r = count-sound ed (n .0) older k r
+  move-in ed (Running x) k r =
+      moved-sound _ (advance-sound l (firstOf c) (ch .loaded) ed (Going x) (ch .shown) (t .small) (record { sound = k; free = r }) (h .shown))
+  move-in ed (FreeRunning x) k r =
+      moved-sound _ (advance-sound l (firstOf c) (ch .loaded) ed (Free x) (ch .shown) (t .small) (record { sound = k; free = r }) (h .shown))
 
   -- A TICK KEEPS A CHANNEL SOUND, WHATEVER THE WAVE TABLES
-  pub tick-sound : (u : List ℕ) → SideSound (tickOf s u l c ch)
+  pub tick-sound : (ed : Edition) (u : List ℕ) → SideSound (tickOf ed s u l c ch)
   unfolding tickOf
-  tick-sound u =
-      let m : MoveSound (moveOf s l c ch) = move-in (ch .phase) (h .phase) (h .free) in
+  tick-sound ed u =
+      let m : MoveSound (moveOf ed s l c ch) = move-in ed (ch .phase) (h .phase) (h .free) in
       record {
-        channel = signal-sound (moveOf s l c ch .channel) _ (m .channel) (made-sound u c _ _ _ _ (m .gave) (m .channel .tone) (m .channel .signal));
+        channel = signal-sound (moveOf ed s l c ch .channel) _ (m .channel) (made-sound u c _ _ _ _ (m .gave) (m .channel .tone) (m .channel .signal));
         tables = m .tables;
       }
 

@@ -7,6 +7,8 @@ use Prim.Native.Nat.{ℕ, _+_, _*_, _-_, _≤_, _<_}
 use native.Mathlib.Omega.{arith}
 use lib.ListN.{length}
 use borrow.Author.Tests.{ne-eqb, eqb-true}
+use Rattle.sum.specs.declared.Edition.{Edition}
+use Rattle.sum.specs.declared.Edition.the-variants.{First}
 use Rattle.slots.specs.declared.Holder.the-variants.{Level, Nobody}
 use Rattle.channel.specs.declared.Moved.{Moved}
 use Rattle.channel.specs.declared.Shown.{Shown}
@@ -80,11 +82,11 @@ module _ (f : ℕ → List ℕ → Channel → Side)
   turn-table : (y : Turn f beside k l c) → f c (y .mid) (channelOf k c) .tables ≡ y .mid → 128 * c + 128 ≤ length l
       → SameTable (onAll f k l .tables) (firstOf c) l (firstOf c)
   turn-table y e room i h =
-      sym (ap (λ (x : Side). word (x .tables) (firstOf c + i)) (y .goes))
-      ∙ untimed-table c (f c (y .mid) (channelOf k c)) (y .after) (y .none-after) (omega (arith, ap length e, mid-length f beside k l c y)) i h
+      sym (ap (λ (x : Side). word (x .tables) (firstOf c + i)) (y .goes First))
+      ∙ untimed-table First c (f c (y .mid) (channelOf k c)) (y .after) (y .none-after) (omega (arith, ap length e, mid-length f beside k l c y)) i h
       ∙ ap (λ (t : List ℕ). word t (firstOf c + i)) e
-      ∙ sym (ap (λ (x : Side). word (x .tables) (firstOf c + i)) (y .comes))
-      ∙ untimed-table c (side (channelOf k c) l) (y .before) (y .none) room i h
+      ∙ sym (ap (λ (x : Side). word (x .tables) (firstOf c + i)) (y .comes First))
+      ∙ untimed-table First c (side (channelOf k c) l) (y .before) (y .none) room i h
 
 -- ---- a trigger
 
@@ -139,32 +141,32 @@ module _ (st : State) (x : Act) (level : ℕ) (e : triggerBy st x ≡ Level leve
 
 -- ---- a tick
 
-module _ (l m : List ℕ) (c : ℕ) (same : SameTable m (firstOf c) l (firstOf c)) (ld : Loaded) (s : Shown) where
-  same-advance : (r : Ramp) → RampSound r → advance m (firstOf c) ld r s ≡ advance l (firstOf c) ld r s
+module _ (ed : Edition) (l m : List ℕ) (c : ℕ) (same : SameTable m (firstOf c) l (firstOf c)) (ld : Loaded) (s : Shown) where
+  same-advance : (r : Ramp) → RampSound r → advance ed m (firstOf c) ld r s ≡ advance ed l (firstOf c) ld r s
   unfolding advance given
   same-advance Still h = refl
   same-advance (Going r) h =
       rw (
         same-next m (firstOf c) l (firstOf c) same (r .place) (h .inner),
-        same-sample m (firstOf c) l (firstOf c) same ld (next l (firstOf c) (r .place)) (placed-next l (firstOf c) (r .place) (h .inner)),
+        same-sample m (firstOf c) l (firstOf c) same ed ld (next l (firstOf c) (r .place)) (placed-next l (firstOf c) (r .place) (h .inner)),
       )
   same-advance (Free r) h = refl
 
 -- what one tick makes of a channel's ramp and of its value, over the tables l
-abbrev step : List ℕ → ℕ → Channel → Moved
-step l c ch = advance l (firstOf c) (ch .loaded) (rampOf (ch .phase)) (ch .shown)
+abbrev step : Edition → List ℕ → ℕ → Channel → Moved
+step ed l c ch = advance ed l (firstOf c) (ch .loaded) (rampOf (ch .phase)) (ch .shown)
 
 -- a channel's tick that is no load and no start, with the wave tables w
-record Moves (w l : List ℕ) (c : ℕ) (ch : Channel) (x : Side) : Type 0 where
-  ramp : rampOf (x .channel .phase) ≡ step l c ch .ramp
-  shown : x .channel .shown ≡ step l c ch .shown
-  signal : x .channel .signal ≡ makeOf w c (step l c ch .gave) (ch .loaded .tone) (step l c ch .shown .amplitude) (ch .signal)
+record Moves (ed : Edition) (w l : List ℕ) (c : ℕ) (ch : Channel) (x : Side) : Type 0 where
+  ramp : rampOf (x .channel .phase) ≡ step ed l c ch .ramp
+  shown : x .channel .shown ≡ step ed l c ch .shown
+  signal : x .channel .signal ≡ makeOf w c (step ed l c ch .gave) (ch .loaded .tone) (step ed l c ch .shown .amplitude) (ch .signal)
   loaded : x .channel .loaded ≡ ch .loaded
   tables : x .tables ≡ l
 
-module _ (w s l : List ℕ) (c : ℕ) (ch : Channel) where
+module _ (ed : Edition) (w s l : List ℕ) (c : ℕ) (ch : Channel) where
   -- with a countdown beside it
-  counting-moves : (p : Phase) → ch .phase ≡ p → 11 < toStart p → Moves w l c ch (soundedSide w c (moveAt p s l c ch))
+  counting-moves : (p : Phase) → ch .phase ≡ p → 11 < toStart p → Moves ed w l c ch (soundedSide w c (moveAt ed p s l c ch))
   unfolding moveAt countTo
   counting-moves (Counting n older) e h =
       rw (ne-eqb (n .0 - 1) 0 (λ d. absurd (omega arith)), ne-eqb (n .0 - 1) lead (λ d. absurd (omega arith)))
@@ -174,10 +176,10 @@ module _ (w s l : List ℕ) (c : ℕ) (ch : Channel) where
   counting-moves (FreeRunning r) e h = absurd (omega arith)
 
   -- with none
-  on-moves : (r : Ramp) → rampOf (ch .phase) ≡ r → Moves w l c ch (soundedSide w c (movedOn ch l (advance l (firstOf c) (ch .loaded) r (ch .shown))))
+  on-moves : (r : Ramp) → rampOf (ch .phase) ≡ r → Moves ed w l c ch (soundedSide w c (movedOn ch l (advance ed l (firstOf c) (ch .loaded) r (ch .shown))))
   on-moves r e = record { ramp = rw e (ramp-phase _); shown = rw e; signal = rw e; loaded = refl; tables = refl }
 
-  going-moves : (r : Ramp) → going r ≡ true → (p : Phase) → ch .phase ≡ p → p ≡ phaseOf r → Moves w l c ch (soundedSide w c (moveAt p s l c ch))
+  going-moves : (r : Ramp) → going r ≡ true → (p : Phase) → ch .phase ≡ p → p ≡ phaseOf r → Moves ed w l c ch (soundedSide w c (moveAt ed p s l c ch))
   unfolding moveAt
   going-moves Still g p e f = absurd (true≢false (sym g))
   going-moves (Going v) g p e f = rw f (on-moves (Going v) (ap rampOf (e ∙ f)))
@@ -190,14 +192,14 @@ module _ (waves : List ℕ) (st : State) (h : Sound st) (c : ℕ) (inside : c < 
   abbrev turn : TickTurn waves st c
   turn = tick-turn waves st c inside
 
-  tick-table : tickOf (st .settings) waves (turn .mid) c ch .tables ≡ turn .mid → SameTable (advanced waves st .tables) (firstOf c) (st .tables) (firstOf c)
+  tick-table : tickOf (st .card .edition) (st .settings) waves (turn .mid) c ch .tables ≡ turn .mid → SameTable (advanced waves st .tables) (firstOf c) (st .tables) (firstOf c)
   unfolding advanced
   tick-table e i g =
       ap (λ (x : All). word (x .tables) (firstOf c + i)) (two-passes waves st)
-      ∙ turn-table (λ b l ch. tickOf (st .settings) waves l b ch) (λ b d l ch o. tick-elsewhere (st .settings) l b d ch o waves) (st .card) (st .tables) c turn e
+      ∙ turn-table (λ b l ch. tickOf (st .card .edition) (st .settings) waves l b ch) (λ b d l ch o. tick-elsewhere (st .settings) l b d ch o (st .card .edition) waves) (st .card) (st .tables) c turn e
       (omega (arith, h .tables .many)) i g
 
-  goes : Moves waves (turn .mid) c ch (soundedSide waves c (moveOf (st .settings) (turn .mid) c ch)) → GoesOn waves c st (advanced waves st)
+  goes : Moves (st .card .edition) waves (turn .mid) c ch (soundedSide waves c (moveOf (st .card .edition) (st .settings) (turn .mid) c ch)) → GoesOn waves c st (advanced waves st)
   unfolding tickOf
   goes m =
       record {
@@ -212,14 +214,14 @@ module _ (waves : List ℕ) (st : State) (h : Sound st) (c : ℕ) (inside : c < 
       }
     where
       same : SameTable (turn .mid) (firstOf c) (st .tables) (firstOf c)
-      same = rw (turn .comes) at (untimed-table c (side ch (st .tables)) (turn .before) (turn .none) (omega (arith, h .tables .many)))
+      same = rw (turn .comes (st .card .edition)) at (untimed-table (st .card .edition) c (side ch (st .tables)) (turn .before) (turn .none) (omega (arith, h .tables .many)))
 
-      e : step (turn .mid) c ch ≡ stepped c st
-      e = same-advance (st .tables) (turn .mid) c same (ch .loaded) (ch .shown) (rampOf (ch .phase)) (ramp-sound (ch .phase) (h .card .channels c .phase))
+      e : step (st .card .edition) (turn .mid) c ch ≡ stepped c st
+      e = same-advance (st .card .edition) (st .tables) (turn .mid) c same (ch .loaded) (ch .shown) (rampOf (ch .phase)) (ramp-sound (ch .phase) (h .card .channels c .phase))
 
   -- a ramp, and a free run, with no countdown beside it
   goes-alone : (r : Ramp) → going r ≡ true → ch .phase ≡ phaseOf r → GoesOn waves c st (advanced waves st)
-  goes-alone r g f = goes (going-moves waves (st .settings) (turn .mid) c ch r g (ch .phase) refl f)
+  goes-alone r g f = goes (going-moves (st .card .edition) waves (st .settings) (turn .mid) c ch r g (ch .phase) refl f)
 
 -- ---- a write
 
@@ -231,7 +233,7 @@ write-keeps-ramp st h start count ws e c i =
     record {
       ramp = ap rampOf (r .phase);
       loaded = r .loaded;
-      table = λ n g. ap (λ (x : Side). word (x .tables) (firstOf c + n)) (sym (p .runs)) ∙ untimed-table c (sideAt st c) (p .acts) (p .none) (omega (arith, h .tables .many)) n g;
+      table = λ n g. ap (λ (x : Side). word (x .tables) (firstOf c + n)) (sym (p .runs (st .card .edition))) ∙ untimed-table (st .card .edition) c (sideAt st c) (p .acts) (p .none) (omega (arith, h .tables .many)) n g;
     }
 
 -- UNTIL THE LOAD AN OLDER RAMP GOES ON
@@ -241,7 +243,7 @@ older-goes-on =
       trigger = λ st h x level e c i f. trigger-keeps st x level e c i f (omega (arith, h .tables .many));
       shown = trigger-shows;
       signal = trigger-sounds;
-      counting = λ w st h c i f. goes w st h c i (counting-moves w (st .settings) _ c (channelOf (st .card) c) (channelOf (st .card) c .phase) refl f);
+      counting = λ w st h c i f. goes w st h c i (counting-moves (st .card .edition) w (st .settings) _ c (channelOf (st .card) c) (channelOf (st .card) c .phase) refl f);
       running = λ w st h c i r f. goes-alone w st h c i (Going r) refl f;
       free = λ w st h c i r f. goes-alone w st h c i (Free r) refl f;
       write = write-keeps-ramp;

@@ -10,6 +10,7 @@ use lib.ListN.{length, set, getD-replicate}
 use lib.Seq.{getD-set-same, getD-set-other}
 use borrow.Author.Tests.{lt-ltb, eq-eqb, ne-eqb, eqb-true, eqb-false}
 use Rattle.word.specs.Word.{grown}
+use Rattle.sum.specs.declared.Edition.{Edition}
 use Rattle.map.specs.Map.{registerOf}
 use Rattle.map.specs.Settings.{isSetting}
 use Rattle.slots.specs.declared.Holder.{Holder}
@@ -19,7 +20,7 @@ use Rattle.card.specs.declared.Card.{Card}
 use Rattle.card.specs.Card.{State, state, channelOf, countOf, withCount, withChannels}
 use Rattle.card.specs.Trigger.{struck, triggerOf, acceptedOf, onEvent}
 use Rattle.card.specs.Tick.{advanced}
-use Rattle.card.specs.Reset.{cardReset, resetOf}
+use Rattle.card.specs.Reset.{cardReset, freshOf}
 use Rattle.transfer.specs.Transfer.{writeOf}
 use Rattle.history.specs.History.{Act, Tick, Write, Ask, HandIn, Reset, act, acts, wordsDone, manualAmong, triggerBy}
 use Rattle.history.specs.Effects.{Does, Keeps, Outputs, ClearsOverflow, ClearsCount, Erases, Idles, Triggers}
@@ -36,7 +37,7 @@ module _ (level : ℕ) (inside : level < 32) where
   count-at k l n f = go (eqb level l) refl (ltb l 32) refl
     where
       go : (a : Bool) → eqb level l ≡ a → (b : Bool) → ltb l 32 ≡ b
-          → countOf (cond b (record { channels = k .channels; counts = set (k .counts) l n; active = k .active; pending = k .pending }) k) level ≡ cond a n (countOf k level)
+          → countOf (cond b (record { channels = k .channels; counts = set (k .counts) l n; active = k .active; pending = k .pending; edition = k .edition }) k) level ≡ cond a n (countOf k level)
       go true d true e =
           let g = eqb-true level l d in
           rw (lt-ltb level 32 inside, ← g) (getD-set-same (k .counts) level n 0 (omega arith))
@@ -142,9 +143,9 @@ module _ (level : ℕ) (inside : level < 32) where
       go (Level l) e = rw (manual-write st start count ws l e) (struck-right st l 0xFE n h)
       go Nobody e = by (clears st level (Write start count ws)) (write-count st start count ws (h .many) e)
 
-  reset-right : (s l : List ℕ) → Right (resetOf s l) 0
+  reset-right : (ed : Edition) (s l : List ℕ) → Right (freshOf ed s l) 0
   unfolding cardReset
-  reset-right s l = record { many = refl; is = rw (lt-ltb level 32 inside) (getD-replicate {A = ℕ} 32 level 0 0 inside) }
+  reset-right ed s l = record { many = refl; is = rw (lt-ltb level 32 inside) (getD-replicate {A = ℕ} 32 level 0 0 inside) }
 
   acts-right : (st : State) (xs : List Act) (n : ℕ) → Right st n → Right (acts st xs) (triggersSince level st xs n)
   acts-right st [] n h = h
@@ -152,9 +153,9 @@ module _ (level : ℕ) (inside : level < 32) where
   acts-right st (Write start count ws ∷ xs) n h = acts-right (act st (Write start count ws)) xs _ (write-right st start count ws n h)
   acts-right st (Ask what ∷ xs) n h = acts-right st xs n h
   acts-right st (HandIn to ws ∷ xs) n h = acts-right st xs n h
-  acts-right st (Reset ∷ xs) n h = acts-right (act st Reset) xs 0 (reset-right (st .settings) (st .tables))
+  acts-right st (Reset ∷ xs) n h = acts-right (act st Reset) xs 0 (reset-right (st .card .edition) (st .settings) (st .tables))
 
 -- A LEVEL'S COUNT IS THE NUMBER OF ITS ACCEPTED TRIGGERS SINCE ITS LAST CLEARING
 pub counts-right : CountsRight
 unfolding CountsRight
-counts-right s l xs level h = rw (count-register level h) (acts-right level h (resetOf s l) xs 0 (reset-right level h s l) .is)
+counts-right ed s l xs level h = rw (count-register level h) (acts-right level h (freshOf ed s l) xs 0 (reset-right level h ed s l) .is)

@@ -5,6 +5,7 @@ use mathlib.Core.List.{List}
 use Prim.Native.Nat.{ℕ}
 use lib.Dec.{eqb}
 use borrow.Author.Tests.{ne-eqb, eqb-false}
+use Rattle.sum.specs.declared.Edition.{Edition}
 use Rattle.map.specs.declared.Register.the-variants as R
 use Rattle.slots.specs.declared.Holder.{Holder}
 use Rattle.slots.specs.declared.Holder.the-variants.{Level, Nobody}
@@ -50,7 +51,7 @@ demand1 =
       counted = counted-is-done;
       tables = wave-tables;
       saves = λ st buffer. save-answered (st .settings) buffer;
-      checks = λ st. verdict-right (st .settings);
+      checks = λ st. verdict-right (st .card .edition) (st .settings);
       seven = held;
       seven-only = held-only;
     }

@@ -6,6 +6,7 @@ use mathlib.Core.Logic.{_⊎_, inl, inr}
 use mathlib.Core.List.{List, [], _∷_}
 use Prim.Native.Nat.{ℕ, _-_}
 use lib.Dec.{ltb, eqb}
+use Rattle.sum.specs.declared.Edition.{Edition}
 use Rattle.sum.specs.declared.Sum.{Sum}
 use Rattle.sum.specs.declared.Sum.the-variants.{Word, Overflow}
 use Rattle.wave.specs.Sine.{sineOf}
@@ -43,8 +44,8 @@ pub data Tells : Gave → List Happening → Type 0 where
   sampled : (w : List ℕ) (f : Bool) (p : Place) (u : Sum) → Tells (OfRamp f u) (Sample w f p u ∷ [])
   freed : (w : List ℕ) → Tells OfFreeRun (FreeSample w ∷ [])
 
-module _ (w z l : List ℕ) (c : ℕ) (ch : Channel) where
-  ramp-tells : (r : Ramp) → Tells (advance l (firstOf c) (ch .loaded) r (ch .shown) .gave) (byRamp w l c ch r)
+module _ (ed : Edition) (w z l : List ℕ) (c : ℕ) (ch : Channel) where
+  ramp-tells : (r : Ramp) → Tells (advance ed l (firstOf c) (ch .loaded) r (ch .shown) .gave) (byRamp ed w l c ch r)
   unfolding advance given
   ramp-tells Still = nothing
   ramp-tells (Going r) = go (ltb 1 (r .wait .0))
@@ -52,8 +53,8 @@ module _ (w z l : List ℕ) (c : ℕ) (ch : Channel) where
       p : Place
       p = next l (firstOf c) (r .place)
 
-      go : (b : Bool) → Tells (cond b (unsampled (Going (sooner r)) (ch .shown)) (given false l (firstOf c) (ch .loaded) (r .period .0) p (ch .shown)) .gave)
-          (cond b [] (sample w false l c ch p))
+      go : (b : Bool) → Tells (cond b (unsampled (Going (sooner r)) (ch .shown)) (given ed false l (firstOf c) (ch .loaded) (r .period .0) p (ch .shown)) .gave)
+          (cond b [] (sample ed w false l c ch p))
       go true = nothing
       go false = sampled w false p _
   ramp-tells (Free r) = go (ltb 1 (r .wait .0))
@@ -63,29 +64,29 @@ module _ (w z l : List ℕ) (c : ℕ) (ch : Channel) where
       go true = nothing
       go false = freed w
 
-  start-tells : Tells (start z l c ch .gave) (byStart w z l c ch)
+  start-tells : Tells (start ed z l c ch .gave) (byStart ed w z l c ch)
   unfolding start given
   start-tells = go (eqb (word z (enableAt c)) 1)
     where
       p : Place
       p = enter l (firstOf c) 0
 
-      go : (b : Bool) → Tells (cond b (movedOn ch l (given true l (firstOf c) (ch .loaded) (lasting 1) p (ch .shown))) (quiet (side (with ch Rest (ch .shown)) l)) .gave)
-          (cond b (sample w true l c ch p) [])
+      go : (b : Bool) → Tells (cond b (movedOn ch l (given ed true l (firstOf c) (ch .loaded) (lasting 1) p (ch .shown))) (quiet (side (with ch Rest (ch .shown)) l)) .gave)
+          (cond b (sample ed w true l c ch p) [])
       go true = sampled w true p _
       go false = nothing
 
-  pub move-tells : (p : Phase) → Tells (moveAt p z l c ch .gave) (inPhase p w z l c ch)
+  pub move-tells : (p : Phase) → Tells (moveAt ed p z l c ch .gave) (inPhase ed p w z l c ch)
   unfolding moveAt countTo
   move-tells Rest = nothing
   move-tells (Counting n older) = go (eqb (n .0 - 1) 0) (loadsAt (n .0 - 1))
     where
       m : Moved
-      m = advance l (firstOf c) (ch .loaded) older (ch .shown)
+      m = advance ed l (firstOf c) (ch .loaded) older (ch .shown)
 
       go : (a b : Bool)
-          → Tells (cond a (start z l c ch) (cond b (quiet (load z l c ch (ch .level))) (move (with ch (Counting (record { 0 = n .0 - 1 }) (m .ramp)) (m .shown)) l (m .gave))) .gave)
-          (cond a (byStart w z l c ch) (cond b (Load (loadedFor z c (ch .level)) ∷ []) (byRamp w l c ch older)))
+          → Tells (cond a (start ed z l c ch) (cond b (quiet (load z l c ch (ch .level))) (move (with ch (Counting (record { 0 = n .0 - 1 }) (m .ramp)) (m .shown)) l (m .gave))) .gave)
+          (cond a (byStart ed w z l c ch) (cond b (Load (loadedFor z c (ch .level)) ∷ []) (byRamp ed w l c ch older)))
       go true b = start-tells
       go false true = loaded _
       go false false = ramp-tells older

@@ -8,6 +8,7 @@ pub mod Channels
 pub mod Sound
 pub mod Effects
 pub mod Writing
+pub mod Editions
 pub mod Reading
 pub mod Numbers
 pub mod Turns

@@ -7,6 +7,7 @@ use Prim.Native.Nat.{ℕ, zero, suc, _+_, _-_, _<_}
 use native.Mathlib.Omega.{arith}
 use lib.Dec.{ltb, eqb}
 use borrow.Author.Tests.{eqb-true}
+use Rattle.sum.specs.declared.Edition.{Edition}
 use Rattle.map.specs.Map.{base}
 use Rattle.map.specs.Addresses.{enableAt}
 use Rattle.slots.specs.declared.Holder.the-variants.{Level}
@@ -98,21 +99,21 @@ loads-told st Reset = refl
 
 -- ---- a channel's tick
 
-module _ (u s l : List ℕ) (c : ℕ) (ch : Channel) where
+module _ (ed : Edition) (u s l : List ℕ) (c : ℕ) (ch : Channel) where
   -- samples are no loads
   abbrev NoLoad : List Happening → Type 0
   NoLoad hs = loadAmong hs ≡ false
 
-  pub ramp-loads : (r : Ramp) → NoLoad (byRamp u l c ch r)
+  pub ramp-loads : (r : Ramp) → NoLoad (byRamp ed u l c ch r)
   ramp-loads Still = refl
   ramp-loads (Going w) = choose NoLoad (ltb 1 (w .wait .0)) _ _ refl refl
   ramp-loads (Free w) = choose NoLoad (ltb 1 (w .wait .0)) _ _ refl refl
 
-  pub start-loads : NoLoad (byStart u s l c ch)
+  pub start-loads : NoLoad (byStart ed u s l c ch)
   start-loads = choose NoLoad (eqb (word s (enableAt c)) 1) _ _ refl refl
 
   -- A TICK LOADS WHERE THE COUNTDOWN REACHES 10
-  pub tick-loads : (p : Phase) → loadAmong (inPhase p u s l c ch) ≡ loadsAt (toStart p - 1)
+  pub tick-loads : (p : Phase) → loadAmong (inPhase ed p u s l c ch) ≡ loadsAt (toStart p - 1)
   tick-loads Rest = refl
   tick-loads (Counting n older) = go (eqb (n .0 - 1) 0) refl (loadsAt (n .0 - 1)) refl
     where
@@ -120,41 +121,41 @@ module _ (u s l : List ℕ) (c : ℕ) (ch : Channel) where
       none e = rw (eqb-true (n .0 - 1) 0 e)
 
       go : (a : Bool) → eqb (n .0 - 1) 0 ≡ a → (b : Bool) → loadsAt (n .0 - 1) ≡ b
-          → loadAmong (cond a (byStart u s l c ch) (cond b (Load (loadedFor s c (ch .level)) ∷ []) (byRamp u l c ch older))) ≡ b
+          → loadAmong (cond a (byStart ed u s l c ch) (cond b (Load (loadedFor s c (ch .level)) ∷ []) (byRamp ed u l c ch older))) ≡ b
       go true e b f = start-loads ∙ sym (none e) ∙ f
       go false e true f = refl
       go false e false f = ramp-loads older
   tick-loads (Running w) = ramp-loads (Going w)
   tick-loads (FreeRunning w) = ramp-loads (Free w)
 
-module _ (s l : List ℕ) (c : ℕ) (ch : Channel) where
+module _ (ed : Edition) (s l : List ℕ) (c : ℕ) (ch : Channel) where
   ramp-counts : (r : Ramp) → toStart (phaseOf r) ≡ 0
   ramp-counts Still = refl
   ramp-counts (Going w) = refl
   ramp-counts (Free w) = refl
 
-  start-counts : toStart (start s l c ch .channel .phase) ≡ 0
+  start-counts : toStart (start ed s l c ch .channel .phase) ≡ 0
   unfolding start
   start-counts = choose (λ (x : Move). toStart (x .channel .phase) ≡ 0) (eqb (word s (enableAt c)) 1) _ _
-      (ramp-counts (given true l (firstOf c) (ch .loaded) (lasting 1) (enter l (firstOf c) 0) (ch .shown) .ramp)) refl
+      (ramp-counts (given ed true l (firstOf c) (ch .loaded) (lasting 1) (enter l (firstOf c) 0) (ch .shown) .ramp)) refl
 
   -- A TICK TAKES ONE MICROSECOND FROM THE COUNTDOWN
-  pub tick-counts : (p : Phase) → ch .phase ≡ p → toStart (moveAt p s l c ch .channel .phase) ≡ toStart p - 1
+  pub tick-counts : (p : Phase) → ch .phase ≡ p → toStart (moveAt ed p s l c ch .channel .phase) ≡ toStart p - 1
   unfolding moveAt countTo load
   tick-counts Rest e = rw e
   tick-counts (Counting n older) e = go (eqb (n .0 - 1) 0) refl (loadsAt (n .0 - 1)) refl
     where
       o : Moved
-      o = advance l (firstOf c) (ch .loaded) older (ch .shown)
+      o = advance ed l (firstOf c) (ch .loaded) older (ch .shown)
 
       go : (a : Bool) → eqb (n .0 - 1) 0 ≡ a → (b : Bool) → loadsAt (n .0 - 1) ≡ b
-          → toStart (cond a (start s l c ch) (cond b (quiet (load s l c ch (ch .level))) (move (with ch (Counting (record { 0 = n .0 - 1 }) (o .ramp)) (o .shown)) l (o .gave))) .channel .phase)
+          → toStart (cond a (start ed s l c ch) (cond b (quiet (load s l c ch (ch .level))) (move (with ch (Counting (record { 0 = n .0 - 1 }) (o .ramp)) (o .shown)) l (o .gave))) .channel .phase)
           ≡ n .0 - 1
       go true e b f = start-counts ∙ sym (eqb-true (n .0 - 1) 0 e)
       go false e true f = sym (eqb-true (n .0 - 1) lead f)
       go false e false f = refl
-  tick-counts (Running w) e = ramp-counts (advance l (firstOf c) (ch .loaded) (Going w) (ch .shown) .ramp)
-  tick-counts (FreeRunning w) e = ramp-counts (advance l (firstOf c) (ch .loaded) (Free w) (ch .shown) .ramp)
+  tick-counts (Running w) e = ramp-counts (advance ed l (firstOf c) (ch .loaded) (Going w) (ch .shown) .ramp)
+  tick-counts (FreeRunning w) e = ramp-counts (advance ed l (firstOf c) (ch .loaded) (Free w) (ch .shown) .ramp)
 
 -- ---- the card
 
@@ -163,10 +164,10 @@ module _ (waves : List ℕ) (st : State) where
   unfolding tickOf
   advanced-counts c h =
       ap (λ (ch : Channel). toStart (ch .phase)) (sym (tick-same waves st c (tick-turn waves st c h)))
-      ∙ tick-counts (st .settings) (tick-turn waves st c h .mid) c (channelOf (st .card) c) (channelOf (st .card) c .phase) refl
+      ∙ tick-counts (st .card .edition) (st .settings) (tick-turn waves st c h .mid) c (channelOf (st .card) c) (channelOf (st .card) c .phase) refl
 
   counting-told : (c : ℕ) → c < 4 → justLoaded (channelOf (advanced waves st .card) c .phase) ≡ loadAmong (inTick waves st c)
-  counting-told c h = ap loadsAt (advanced-counts c h) ∙ sym (tick-loads waves (st .settings) (st .tables) c (channelOf (st .card) c) (channelOf (st .card) c .phase))
+  counting-told c h = ap loadsAt (advanced-counts c h) ∙ sym (tick-loads (st .card .edition) waves (st .settings) (st .tables) c (channelOf (st .card) c) (channelOf (st .card) c .phase))
 
   -- A TICK SHOWS THE PENDING TRIGGER WHERE SOME CHANNEL LOADS BY COUNTING
   pub advanced-active : advanced waves st .card .active ≡ cond (loadsByCounting waves st) (st .card .pending) (st .card .active)

@@ -6,6 +6,7 @@ use Prim.Native.Nat.{ℕ, _-_, _<_}
 use native.Mathlib.Omega.{arith}
 use lib.Dec.{eqb}
 use lib.ListN.{length}
+use Rattle.sum.specs.declared.Edition.{Edition}
 use Rattle.slots.specs.declared.Holder.{Holder}
 use Rattle.slots.specs.declared.Holder.the-variants.{Level, Nobody}
 use Rattle.channel.specs.declared.Ramp.the-variants.{Going, Free}
@@ -17,7 +18,7 @@ use Rattle.card.specs.declared.Cause.{Cause}
 use Rattle.card.specs.Card.{State, channelOf}
 use Rattle.card.specs.Trigger.{triggerOf}
 use Rattle.card.specs.Tick.{advanced}
-use Rattle.card.specs.Reset.{cardReset, resetOf}
+use Rattle.card.specs.Reset.{cardReset, freshOf}
 use Rattle.course.proofs.Copies.{choose}
 use Rattle.course.proofs.Acts.{tick-level}
 use Rattle.history.specs.History.{Act, Tick, Write, Ask, HandIn, Reset, act, acts, readBack, triggerBy}
@@ -37,14 +38,14 @@ record Levels (st : State) : Type 0 where
   four : length (st .card .channels) ≡ 4
   same : (c : ℕ) → c < 4 → channelOf (st .card) c .level ≡ st .card .pending .level
 
-reset-levels : (s l : List ℕ) → Levels (resetOf s l)
+reset-levels : (ed : Edition) (s l : List ℕ) → Levels (freshOf ed s l)
 unfolding cardReset
-reset-levels s l = record { four = four; same = λ c h. ap (λ (ch : Channel). ch .level) (four-fresh c h) ∙ level }
+reset-levels ed s l = record { four = four; same = λ c h. ap (λ (ch : Channel). ch .level) (four-fresh ed c h) ∙ level }
   where
-    four : length (cardReset .channels) ≡ 4
+    four : length (cardReset ed .channels) ≡ 4
     four = refl
 
-    level : 0 ≡ cardReset .pending .level
+    level : 0 ≡ cardReset ed .pending .level
     level = refl
 
 tick-levels : (waves : List ℕ) (st : State) → Levels st → Levels (advanced waves st)
@@ -53,7 +54,7 @@ tick-levels waves st h =
       four = advanced-four waves st;
       same =
           λ c i. ap (λ (ch : Channel). ch .level) (sym (tick-same waves st c (tick-turn waves st c i)))
-          ∙ tick-level (st .settings) (tick-turn waves st c i .mid) c (channelOf (st .card) c) waves
+          ∙ tick-level (st .card .edition) (st .settings) (tick-turn waves st c i .mid) c (channelOf (st .card) c) waves
           ∙ h .same c i
           ∙ ap (λ (t : Cause). t .level) (sym (advanced-pending waves st));
     }
@@ -90,7 +91,7 @@ act-levels st x h = go (triggerBy st x) refl
     quiet (Write start count ws) e = write-levels st start count ws e h
     quiet (Ask what) e = h
     quiet (HandIn to ws) e = h
-    quiet Reset e = reset-levels (st .settings) (st .tables)
+    quiet Reset e = reset-levels (st .card .edition) (st .settings) (st .tables)
 
     go : (r : Holder) → triggerBy st x ≡ r → Levels (act st x)
     go (Level l) e = rw (trigger-is st x l e) (trigger-levels (justBefore st x) l (eventBy x))
@@ -103,20 +104,20 @@ acts-levels st (x ∷ xs) h = acts-levels (act st x) xs (act-levels st x h)
 -- ---- what is loaded
 
 -- a load by counting is for the channel's pending level
-module _ (u s l : List ℕ) (c : ℕ) (ch : Channel) where
-  pub counting-load : (p : Phase) → loadAmong (inPhase p u s l c ch) ≡ true → inPhase p u s l c ch ≡ Load (loadedFor s c (ch .level)) ∷ []
+module _ (ed : Edition) (u s l : List ℕ) (c : ℕ) (ch : Channel) where
+  pub counting-load : (p : Phase) → loadAmong (inPhase ed p u s l c ch) ≡ true → inPhase ed p u s l c ch ≡ Load (loadedFor s c (ch .level)) ∷ []
   counting-load Rest e = absurd (true≢false (sym e))
   counting-load (Counting n older) e = go (eqb (n .0 - 1) 0) (loadsAt (n .0 - 1)) e
     where
       ld : List Happening
       ld = Load (loadedFor s c (ch .level)) ∷ []
 
-      go : (a b : Bool) → loadAmong (cond a (byStart u s l c ch) (cond b ld (byRamp u l c ch older))) ≡ true → cond a (byStart u s l c ch) (cond b ld (byRamp u l c ch older)) ≡ ld
-      go true b e = absurd (true≢false (sym e ∙ start-loads u s l c ch))
+      go : (a b : Bool) → loadAmong (cond a (byStart ed u s l c ch) (cond b ld (byRamp ed u l c ch older))) ≡ true → cond a (byStart ed u s l c ch) (cond b ld (byRamp ed u l c ch older)) ≡ ld
+      go true b e = absurd (true≢false (sym e ∙ start-loads ed u s l c ch))
       go false true e = refl
-      go false false e = absurd (true≢false (sym e ∙ ramp-loads u s l c ch older))
-  counting-load (Running w) e = absurd (true≢false (sym e ∙ ramp-loads u s l c ch (Going w)))
-  counting-load (FreeRunning w) e = absurd (true≢false (sym e ∙ ramp-loads u s l c ch (Free w)))
+      go false false e = absurd (true≢false (sym e ∙ ramp-loads ed u s l c ch older))
+  counting-load (Running w) e = absurd (true≢false (sym e ∙ ramp-loads ed u s l c ch (Going w)))
+  counting-load (FreeRunning w) e = absurd (true≢false (sym e ∙ ramp-loads ed u s l c ch (Free w)))
 
 -- a load at a trigger is for the trigger's level
 trigger-load : (s : List ℕ) (c level : ℕ) → loadAmong (byTrigger (Level level) s c) ≡ true → byTrigger (Level level) s c ≡ Load (loadedFor s c level) ∷ []
@@ -130,7 +131,7 @@ module _ (st : State) (h : Levels st) where
   named-counting : (waves : List ℕ) (c : ℕ) → c < 4 → loadAmong (inTick waves st c) ≡ true
       → inTick waves st c ≡ Load (loadedFor (st .settings) c (readBack (advanced waves st) 0x4210)) ∷ []
   named-counting waves c i e =
-      counting-load waves (st .settings) (st .tables) c (channelOf (st .card) c) (channelOf (st .card) c .phase) e
+      counting-load (st .card .edition) waves (st .settings) (st .tables) c (channelOf (st .card) c) (channelOf (st .card) c .phase) e
       ∙ ap (λ (level : ℕ). Load (loadedFor (st .settings) c level) ∷ []) (h .same c i ∙ sym shown)
     where
       shown : readBack (advanced waves st) 0x4210 ≡ st .card .pending .level
@@ -155,6 +156,6 @@ module _ (st : State) (h : Levels st) where
 -- WHAT A CHANNEL LOADS IS FOR THE LEVEL THAT 0x4210 THEN SHOWS
 pub loads-named : LoadsNamed
 unfolding LoadsNamed
-loads-named s l xs =
-    let h = acts-levels (resetOf s l) xs (reset-levels s l) in
-    record { counting = named-counting (acts (resetOf s l) xs) h; trigger = named-trigger (acts (resetOf s l) xs) h }
+loads-named ed s l xs =
+    let h = acts-levels (freshOf ed s l) xs (reset-levels ed s l) in
+    record { counting = named-counting (acts (freshOf ed s l) xs) h; trigger = named-trigger (acts (freshOf ed s l) xs) h }

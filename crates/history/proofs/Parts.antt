@@ -8,6 +8,8 @@ use native.Mathlib.Omega.{arith}
 use lib.Dec.{eqb}
 use lib.ListN.{length, set}
 use borrow.Author.Tests.{eqb-true, eqb-false}
+use Rattle.sum.specs.declared.Edition.{Edition}
+use Rattle.sum.specs.declared.Edition.the-variants.{First}
 use Rattle.slots.specs.declared.Holder.the-variants.{Level, Nobody}
 use Rattle.slots.specs.Slots.{erased}
 use Rattle.channel.specs.Channel.{Side, side, runsOf, outputTo, overflowCleared}
@@ -28,18 +30,18 @@ use Rattle.history.proofs.Writing.{write-by}
 pub record Part (c : ℕ) (x y : State) : Type 0 where
   pub acts : List C.Act
   pub none : C.ticksIn acts ≡ 0
-  pub runs : C.run c (sideAt x c) acts ≡ sideAt y c
+  pub runs : (ed : Edition) → C.run ed c (sideAt x c) acts ≡ sideAt y c
   pub settled : length (y .card .channels) ≡ 4
 
 nothing : (c : ℕ) (x : State) → length (x .card .channels) ≡ 4 → Part c x x
-nothing c x f = record { acts = []; none = refl; runs = refl; settled = f }
+nothing c x f = record { acts = []; none = refl; runs = λ ed. refl; settled = f }
 
 then : (c : ℕ) (x y z : State) → Part c x y → Part c y z → Part c x z
 then c x y z p q =
     record {
       acts = p .acts ++ q .acts;
       none = ticks-append (p .acts) (q .acts) ∙ omega (arith, p .none, q .none);
-      runs = run-append c (sideAt x c) (p .acts) (q .acts) ∙ ap (λ (w : Side). C.run c w (q .acts)) (p .runs) ∙ q .runs;
+      runs = λ ed. run-append ed c (sideAt x c) (p .acts) (q .acts) ∙ ap (λ (w : Side). C.run ed c w (q .acts)) (p .runs ed) ∙ q .runs ed;
       settled = q .settled;
     }
 
@@ -63,14 +65,14 @@ module _ (c : ℕ) (inside : c < 4) (st : State) (four : length (st .card .chann
           record {
             acts = C.Output v ∷ [];
             none = refl;
-            runs = ap (λ ch. side ch (st .tables)) (mine (eqb-true c d f));
+            runs = λ ed. ap (λ ch. side ch (st .tables)) (mine (eqb-true c d f));
             settled = many;
           }
       go false f =
           record {
             acts = [];
             none = refl;
-            runs = ap (λ ch. side ch (st .tables)) (sym (channel-other (st .card) d (outputTo (channelOf (st .card) d) v) c (eqb-false c d f)));
+            runs = λ ed. ap (λ ch. side ch (st .tables)) (sym (channel-other (st .card) d (outputTo (channelOf (st .card) d) v) c (eqb-false c d f)));
             settled = many;
           }
 
@@ -87,22 +89,22 @@ module _ (c : ℕ) (inside : c < 4) (st : State) (four : length (st .card .chann
       mine f = rw f (sym (channel-same (st .card) d (overflowCleared (channelOf (st .card) d)) (rw f at inside) four))
 
       go : (b : Bool) → eqb c d ≡ b → Part c st (state new (st .settings) (st .tables))
-      go true f = record { acts = C.Clear ∷ []; none = refl; runs = ap (λ ch. side ch (st .tables)) (mine (eqb-true c d f)); settled = many }
+      go true f = record { acts = C.Clear ∷ []; none = refl; runs = λ ed. ap (λ ch. side ch (st .tables)) (mine (eqb-true c d f)); settled = many }
       go false f =
           record {
             acts = [];
             none = refl;
-            runs = ap (λ ch. side ch (st .tables)) (sym (channel-other (st .card) d (overflowCleared (channelOf (st .card) d)) c (eqb-false c d f)));
+            runs = λ ed. ap (λ ch. side ch (st .tables)) (sym (channel-other (st .card) d (overflowCleared (channelOf (st .card) d)) c (eqb-false c d f)));
             settled = many;
           }
 
   count-part : (level : ℕ) → Part c st (state (withCount (st .card) level 0) (st .settings) (st .tables))
   count-part level =
       let e = count-channels (st .card) level 0 in
-      record { acts = []; none = refl; runs = rw e; settled = rw e four }
+      record { acts = []; none = refl; runs = λ ed. rw e; settled = rw e four }
 
   still : (s : List ℕ) → Part c st (state (st .card) s (st .tables))
-  still s = record { acts = []; none = refl; runs = refl; settled = four }
+  still s = record { acts = []; none = refl; runs = λ ed. refl; settled = four }
 
   word-part : (a v : ℕ) (y : State) → (a ≡ 0x4202 → ⊥) → Does st a v y → Part c st y
   word-part a v y n (Keeps i e) = subst (Part c st) (sym e) (still (set (st .settings) a v))
@@ -138,9 +140,9 @@ pub record PartKept (c : ℕ) (x y : State) : Type 0 where
 
 pub part-keeps : (c : ℕ) (x y : State) → Part c x y → PartKept c x y
 part-keeps c x y p =
-    let r = untimed-ramp c (sideAt x c) (p .acts) (p .none) in
+    let r = untimed-ramp First c (sideAt x c) (p .acts) (p .none) in
     record {
-      phase = ap (λ (z : Side). z .channel .phase) (sym (p .runs)) ∙ r .0;
-      loaded = ap (λ (z : Side). z .channel .loaded) (sym (p .runs)) ∙ r .1;
-      level = ap (λ (z : Side). z .channel .level) (sym (p .runs)) ∙ r .2;
+      phase = ap (λ (z : Side). z .channel .phase) (sym (p .runs First)) ∙ r .0;
+      loaded = ap (λ (z : Side). z .channel .loaded) (sym (p .runs First)) ∙ r .1;
+      level = ap (λ (z : Side). z .channel .level) (sym (p .runs First)) ∙ r .2;
     }

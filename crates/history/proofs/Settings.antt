@@ -17,7 +17,7 @@ use Rattle.slots.specs.Slots.{erased}
 use Rattle.slots.proofs.Fills.{erased-else, filled-in}
 use Rattle.channel.specs.Channel.{word}
 use Rattle.card.specs.Card.{State}
-use Rattle.card.specs.Reset.{settingsReset, resetOf}
+use Rattle.card.specs.Reset.{settingsReset, freshOf}
 use Rattle.card.proofs.Ticks.{trigger-settings, tick-settings}
 use Rattle.transfer.specs.Word.{effectOf, readAt}
 use Rattle.transfer.specs.Transfer.{writeOf}
@@ -156,5 +156,5 @@ pub settings-kept : SettingsKept
 settings-kept =
     record {
       kept = λ st l b i xs. setting-reads b i (acts st xs) ∙ acts-left b i st xs (readBack st b) l (sym (setting-reads b i st));
-      fresh = λ s l h b i. setting-reads b i (resetOf s l) ∙ reset-left b i s h;
+      fresh = λ ed s l h b i. setting-reads b i (freshOf ed s l) ∙ reset-left b i s h;
     }

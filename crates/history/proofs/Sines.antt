@@ -11,6 +11,7 @@ use lib.ListN.{length}
 use borrow.Author.Tests.{eqb-true, eqb-false}
 use Rattle.word.specs.Word.{signedOf}
 use Rattle.word.proofs.Split.{dn}
+use Rattle.sum.specs.declared.Edition.{Edition}
 use Rattle.sum.specs.declared.Side.{Side}
 use Rattle.sum.specs.declared.Sum.the-variants.{Overflow}
 use Rattle.sum.specs.Sample.{onSide}
@@ -28,7 +29,7 @@ use Rattle.course.specs.Plain.{asOutput, isFree, PlainTick, PlainTicks}
 use Rattle.course.proofs.Signals.{counter-closed}
 use Rattle.course.proofs.Plain.{plain-ticks}
 use Rattle.card.specs.Card.{State, channelOf}
-use Rattle.card.specs.Reset.{wavesReset, resetOf}
+use Rattle.card.specs.Reset.{wavesReset, freshOf}
 use Rattle.history.specs.History.{Act}
 use Rattle.history.specs.Sound.{Words, Sound}
 use Rattle.history.specs.Waves.{wavesIn}
@@ -44,11 +45,11 @@ never-free mode false e f = refl
 
 plain : (w : List ℕ) (st : State) → Sound st → (c : ℕ) → c < 4
     → let ch : Channel = channelOf (st .card) c in
-    isSine (ch .loaded .tone .mode) ≡ false → PlainTick (st .settings) w (st .tables) c ch (moveOf (st .settings) (st .tables) c (asOutput ch))
+    isSine (ch .loaded .tone .mode) ≡ false → PlainTick (st .card .edition) (st .settings) w (st .tables) c ch (moveOf (st .card .edition) (st .settings) (st .tables) c (asOutput ch))
 unfolding PlainTicks
 plain w st h c b e =
     let ch : Channel = channelOf (st .card) c in
-    plain-ticks (st .settings) w (st .tables) c ch e (never-free (ch .loaded .tone .mode) (isFree (rampOf (ch .phase))) e (h .card .channels c .free))
+    plain-ticks (st .card .edition) (st .settings) w (st .tables) c ch e (never-free (ch .loaded .tone .mode) (isFree (rampOf (ch .phase))) e (h .card .channels c .free))
 
 -- ---- the counter
 
@@ -75,13 +76,13 @@ only-lowest amplitude k x r e = (must-be (signedOf amplitude) 32767 (λ d. fits 
     fits d =
         true≢false (sym (ap overflows e) ∙ ap (λ (y : Side). overflows (onSide y (scaledBy amplitude x))) (sines-right amplitude k x r .within d))
 
-only-product : (s l w : List ℕ) → length w ≡ 4096 → (xs : List Act) (c : ℕ) → c < 4 → (counter amplitude : ℕ) → amplitude < 65536
-    → let waves : List ℕ = wavesIn (resetOf s l) (wavesReset w) xs in
+only-product : (ed : Edition) (s l w : List ℕ) → length w ≡ 4096 → (xs : List Act) (c : ℕ) → c < 4 → (counter amplitude : ℕ) → amplitude < 65536
+    → let waves : List ℕ = wavesIn (freshOf ed s l) (wavesReset w) xs in
     sineOf waves c counter amplitude ≡ Overflow → Lowest amplitude (waveWord waves c counter)
 unfolding WordsInRange
-only-product s l w n xs c b counter amplitude k =
-    let waves : List ℕ = wavesIn (resetOf s l) (wavesReset w) xs in
-    only-lowest amplitude k (waveWord waves c counter) (words-in-range waves c (waves-right .inside s l w n xs c b) counter)
+only-product ed s l w n xs c b counter amplitude k =
+    let waves : List ℕ = wavesIn (freshOf ed s l) (wavesReset w) xs in
+    only-lowest amplitude k (waveWord waves c counter) (words-in-range waves c (waves-right .inside ed s l w n xs c b) counter)
 
 -- THE SINE OVER HISTORIES
 pub sines-over-histories : SinesOverHistories

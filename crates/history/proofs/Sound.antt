@@ -10,6 +10,7 @@ use lib.Dec.{ltb, eqb}
 use lib.ListN.{length, getD, set, replicate, length-set, getD-replicate, List·getD-eq-default, take}
 use borrow.Author.Tests.{ltb-true, ltb-false, leb-true, eqb-true, eqb-false}
 use Rattle.word.specs.Word.{grown}
+use Rattle.sum.specs.declared.Edition.{Edition}
 use Rattle.map.specs.declared.Register.{Register}
 use Rattle.map.specs.declared.Register.the-variants as R
 use Rattle.map.specs.Map.{registerOf}
@@ -29,7 +30,7 @@ use Rattle.card.specs.Active.{cause, someLoaded}
 use Rattle.card.specs.Trigger.{counted, keeping, struck, triggerOf, acceptedOf, onEvent, eventOf}
 use Rattle.card.specs.Tick.{bothPasses, advanced, tickWith, ticks}
 use Rattle.card.proofs.All.{two-passes}
-use Rattle.card.specs.Reset.{tablesReset, cardReset, resetOf}
+use Rattle.card.specs.Reset.{tablesReset, cardReset, freshOf}
 use Rattle.transfer.specs.declared.Effect.the-variants.{Keep, Output, Erase, Nothing}
 use Rattle.transfer.specs.Word.{effectOf, performOf}
 use Rattle.transfer.specs.Transfer.{processedOf, writeOf}
@@ -108,7 +109,7 @@ count-small k level n h g j = go (ltb level 32)
     at true p = set-word (λ y. y < 65536) (k .counts) level n j (λ e. h) p
     at false p = p
 
-    go : (b : Bool) → countOf (cond b (record { channels = k .channels; counts = set (k .counts) level n; active = k .active; pending = k .pending }) k) j < 65536
+    go : (b : Bool) → countOf (cond b (record { channels = k .channels; counts = set (k .counts) level n; active = k .active; pending = k .pending; edition = k .edition }) k) j < 65536
     go true = at (ltb j 32) (g j)
     go false = g j
 
@@ -121,7 +122,7 @@ module _ (st : State) (h : Sound st) where
   advanced-sound waves =
       let a : AllSound (st .card) (bothPasses waves st) =
       subst (AllSound (st .card)) (sym (two-passes waves st))
-      (all-sound (λ c l ch. tickOf (st .settings) waves l c ch) (λ c i l ch g t. tick-sound (st .settings) (h .settings) l c i ch g t waves) (st .card) (st .tables) (h .card .channels) (h .tables)) in
+      (all-sound (λ c l ch. tickOf (st .card .edition) (st .settings) waves l c ch) (λ c i l ch g t. tick-sound (st .settings) (h .settings) l c i ch g t (st .card .edition) waves) (st .card) (st .tables) (h .card .channels) (h .tables)) in
       record {
         settings = h .settings;
         tables = a .tables;
@@ -259,16 +260,16 @@ module _ (st : State) (h : Sound st) where
 
 -- ---- every call
 
-reset-sound : (s l : List ℕ) → length s ≡ 16960 → length l ≡ 512 → Sound (resetOf s l)
+reset-sound : (ed : Edition) (s l : List ℕ) → length s ≡ 16960 → length l ≡ 512 → Sound (freshOf ed s l)
 unfolding tablesReset cardReset
-reset-sound s l p q =
+reset-sound ed s l p q =
     record {
       settings = reset-words s p;
       tables = record { many = filled-length 512 l 0 0 ∙ q; small = λ i. small i (ltb i 512) refl };
       card =
           record {
             four = refl;
-            channels = four-sound cardReset resetChannel resetChannel resetChannel resetChannel fresh fresh fresh fresh;
+            channels = four-sound (cardReset ed) resetChannel resetChannel resetChannel resetChannel fresh fresh fresh fresh;
             many = refl;
             counts = λ j. counts j (ltb j 32) refl;
             active = record { level = omega arith; event = omega arith };
@@ -314,7 +315,7 @@ one-sound st (Tick waves event) xs w h = (tick-sound-card waves st event h, w)
 one-sound st (Write start count ws) xs w h = (write-sound st start count ws (w .0) h, w .1)
 one-sound st (Ask what) xs w h = (h, w)
 one-sound st (HandIn to ws) xs w h = (h, w)
-one-sound st Reset xs w h = (reset-sound (st .settings) (st .tables) (h .settings .many) (h .tables .many), w)
+one-sound st Reset xs w h = (reset-sound (st .card .edition) (st .settings) (st .tables) (h .settings .many) (h .tables .many), w)
 
 acts-sound : (st : State) (xs : List Act) → Words16 xs → Sound st → Sound (acts st xs)
 acts-sound st [] w h = h

@@ -8,6 +8,7 @@ use native.Mathlib.Omega.{arith}
 use lib.Dec.{ltb, eqb}
 use lib.ListN.{length}
 use borrow.Author.Tests.{eq-eqb, ne-eqb, eqb-true, eqb-false}
+use Rattle.sum.specs.declared.Edition.{Edition}
 use Rattle.sum.specs.declared.Sum.{Sum}
 use Rattle.sum.specs.declared.Sum.the-variants.{Word, Overflow}
 use Rattle.wave.specs.Sine.{sineOf}
@@ -36,7 +37,7 @@ use Rattle.card.specs.declared.Card.{Card}
 use Rattle.card.specs.Card.{State, channelOf, withChannel}
 use Rattle.card.specs.Trigger.{triggerOf, acceptedOf, onEvent}
 use Rattle.card.specs.Tick.{advanced}
-use Rattle.card.specs.Reset.{cardReset, resetOf}
+use Rattle.card.specs.Reset.{cardReset, freshOf}
 use Rattle.transfer.specs.Transfer.{writeOf}
 use Rattle.course.specs.Points.{SameTable}
 use Rattle.course.proofs.Acts.{untimed-table}
@@ -153,15 +154,15 @@ module _ (s l : List ℕ) (c : ℕ) (ch : Channel) (x : Told) (r : Right ch x) w
         → Right (sounded w c (with ch ph (put u p (ch .shown))) (OfRamp isFirst u)) (tell c x (Sample w isFirst p u))
     put-right isFirst ph p u = ramp-made w c (with ch ph (put u p (ch .shown))) (ramped p u x) (ramped-right ph p u) isFirst u
 
-    start-right : Right (out (start s l c ch)) (told c x (byStart w s l c ch))
+    start-right : (ed : Edition) → Right (out (start ed s l c ch)) (told c x (byStart ed w s l c ch))
     unfolding start given
-    start-right = go (eqb (word s (enableAt c)) 1)
+    start-right ed = go (eqb (word s (enableAt c)) 1)
       where
         m : Moved
-        m = given true l (firstOf c) (ch .loaded) (lasting 1) (enter l (firstOf c) 0) (ch .shown)
+        m = given ed true l (firstOf c) (ch .loaded) (lasting 1) (enter l (firstOf c) 0) (ch .shown)
 
-        go : (b : Bool) → Right (out (cond b (movedOn ch l m) (quiet (side (with ch Rest (ch .shown)) l)))) (told c x (cond b (sample w true l c ch (enter l (firstOf c) 0)) []))
-        go true = put-right true (phaseOf (m .ramp)) (enter l (firstOf c) 0) (sampleAt l (firstOf c) (ch .loaded) (enter l (firstOf c) 0))
+        go : (b : Bool) → Right (out (cond b (movedOn ch l m) (quiet (side (with ch Rest (ch .shown)) l)))) (told c x (cond b (sample ed w true l c ch (enter l (firstOf c) 0)) []))
+        go true = put-right true (phaseOf (m .ramp)) (enter l (firstOf c) 0) (sampleAt ed l (firstOf c) (ch .loaded) (enter l (firstOf c) 0))
         go false = quiet-right x (side (with ch Rest (ch .shown)) l) (same-right Rest)
 
     -- a ramp moves on, in a phase made of what it becomes
@@ -171,18 +172,18 @@ module _ (s l : List ℕ) (c : ℕ) (ch : Channel) (x : Told) (r : Right ch x) w
     waits-right : (ph : Phase) → Right (sounded w c (with ch ph (ch .shown)) NoSample) x
     waits-right ph = quiet-right x (side (with ch ph (ch .shown)) l) (same-right ph)
 
-    ramp-right : (in-phase : Ramp → Phase) (older : Ramp) → Right (on in-phase (advance l (firstOf c) (ch .loaded) older (ch .shown))) (told c x (byRamp w l c ch older))
+    ramp-right : (ed : Edition) (in-phase : Ramp → Phase) (older : Ramp) → Right (on in-phase (advance ed l (firstOf c) (ch .loaded) older (ch .shown))) (told c x (byRamp ed w l c ch older))
     unfolding advance given
-    ramp-right in-phase Still = waits-right (in-phase Still)
-    ramp-right in-phase (Going v) = go (ltb 1 (v .wait .0))
+    ramp-right ed in-phase Still = waits-right (in-phase Still)
+    ramp-right ed in-phase (Going v) = go (ltb 1 (v .wait .0))
       where
         m : Moved
-        m = given false l (firstOf c) (ch .loaded) (v .period .0) (next l (firstOf c) (v .place)) (ch .shown)
+        m = given ed false l (firstOf c) (ch .loaded) (v .period .0) (next l (firstOf c) (v .place)) (ch .shown)
 
-        go : (b : Bool) → Right (on in-phase (cond b (unsampled (Going (sooner v)) (ch .shown)) m)) (told c x (cond b [] (sample w false l c ch (next l (firstOf c) (v .place)))))
+        go : (b : Bool) → Right (on in-phase (cond b (unsampled (Going (sooner v)) (ch .shown)) m)) (told c x (cond b [] (sample ed w false l c ch (next l (firstOf c) (v .place)))))
         go true = waits-right (in-phase (Going (sooner v)))
-        go false = put-right false (in-phase (m .ramp)) (next l (firstOf c) (v .place)) (sampleAt l (firstOf c) (ch .loaded) (next l (firstOf c) (v .place)))
-    ramp-right in-phase (Free v) = go (ltb 1 (v .wait .0))
+        go false = put-right false (in-phase (m .ramp)) (next l (firstOf c) (v .place)) (sampleAt ed l (firstOf c) (ch .loaded) (next l (firstOf c) (v .place)))
+    ramp-right ed in-phase (Free v) = go (ltb 1 (v .wait .0))
       where
         again : Ramp
         again = Free (way (v .place) (v .period .0) (v .period .0))
@@ -191,26 +192,26 @@ module _ (s l : List ℕ) (c : ℕ) (ch : Channel) (x : Told) (r : Right ch x) w
         go true = waits-right (in-phase (Free (sooner v)))
         go false = free-made w c (with ch (in-phase again) (ch .shown)) x (same-right (in-phase again))
 
-    moves-right : (p : Phase) → Right (out (moveAt p s l c ch)) (told c x (inPhase p w s l c ch))
+    moves-right : (ed : Edition) (p : Phase) → Right (out (moveAt ed p s l c ch)) (told c x (inPhase ed p w s l c ch))
     unfolding moveAt countTo
-    moves-right Rest = quiet-right x (side ch l) r
-    moves-right (Counting n older) = go (eqb (n .0 - 1) 0) (loadsAt (n .0 - 1))
+    moves-right ed Rest = quiet-right x (side ch l) r
+    moves-right ed (Counting n older) = go (eqb (n .0 - 1) 0) (loadsAt (n .0 - 1))
       where
         o : Moved
-        o = advance l (firstOf c) (ch .loaded) older (ch .shown)
+        o = advance ed l (firstOf c) (ch .loaded) older (ch .shown)
 
         go : (a b : Bool)
-            → Right (out (cond a (start s l c ch) (cond b (quiet (load s l c ch (ch .level))) (move (with ch (Counting (record { 0 = n .0 - 1 }) (o .ramp)) (o .shown)) l (o .gave)))))
-            (told c x (cond a (byStart w s l c ch) (cond b (Load (loadedFor s c (ch .level)) ∷ []) (byRamp w l c ch older))))
-        go true b = start-right
+            → Right (out (cond a (start ed s l c ch) (cond b (quiet (load s l c ch (ch .level))) (move (with ch (Counting (record { 0 = n .0 - 1 }) (o .ramp)) (o .shown)) l (o .gave)))))
+            (told c x (cond a (byStart ed w s l c ch) (cond b (Load (loadedFor s c (ch .level)) ∷ []) (byRamp ed w l c ch older))))
+        go true b = start-right ed
         go false true = quiet-right _ (load s l c ch (ch .level)) (loads-right (ch .level))
-        go false false = ramp-right (Counting (record { 0 = n .0 - 1 })) older
-    moves-right (Running v) = ramp-right phaseOf (Going v)
-    moves-right (FreeRunning v) = ramp-right phaseOf (Free v)
+        go false false = ramp-right ed (Counting (record { 0 = n .0 - 1 })) older
+    moves-right ed (Running v) = ramp-right ed phaseOf (Going v)
+    moves-right ed (FreeRunning v) = ramp-right ed phaseOf (Free v)
 
-    tick-right : Right (tickOf s w l c ch .channel) (told c x (byTick w s l c ch))
+    tick-right : (ed : Edition) → Right (tickOf ed s w l c ch .channel) (told c x (byTick ed w s l c ch))
     unfolding tickOf
-    tick-right = moves-right (ch .phase)
+    tick-right ed = moves-right ed (ch .phase)
 
   trigger-right : (level : ℕ) → Right (triggered s l c ch level .channel) (told c x (byTrigger (Level level) s c))
   unfolding triggered
@@ -225,35 +226,35 @@ module _ (s l : List ℕ) (c : ℕ) (ch : Channel) (x : Told) (r : Right ch x) w
 
 -- ---- the tables of other channels do not matter
 
-module _ (w s l m : List ℕ) (c : ℕ) (ch : Channel) (same : SameTable m (firstOf c) l (firstOf c)) where
-  same-at : (isFirst : Bool) (p q : Place) → p ≡ q → Placed q → sample w isFirst m c ch p ≡ sample w isFirst l c ch q
-  same-at isFirst p q e h = rw e (ap (λ (u : Sum). Sample w isFirst q u ∷ []) (same-sample m (firstOf c) l (firstOf c) same (ch .loaded) q h))
+module _ (ed : Edition) (w s l m : List ℕ) (c : ℕ) (ch : Channel) (same : SameTable m (firstOf c) l (firstOf c)) where
+  same-at : (isFirst : Bool) (p q : Place) → p ≡ q → Placed q → sample ed w isFirst m c ch p ≡ sample ed w isFirst l c ch q
+  same-at isFirst p q e h = rw e (ap (λ (u : Sum). Sample w isFirst q u ∷ []) (same-sample m (firstOf c) l (firstOf c) same ed (ch .loaded) q h))
 
-  same-ramp : (r : Ramp) → RampSound r → byRamp w m c ch r ≡ byRamp w l c ch r
+  same-ramp : (r : Ramp) → RampSound r → byRamp ed w m c ch r ≡ byRamp ed w l c ch r
   same-ramp Still h = refl
   same-ramp (Going r) h =
       ap (λ (hs : List Happening). cond (ltb 1 (r .wait .0)) [] hs)
       (same-at false _ _ (same-next m (firstOf c) l (firstOf c) same (r .place) (h .inner)) (placed-next l (firstOf c) (r .place) (h .inner)))
   same-ramp (Free r) h = refl
 
-  same-start : byStart w s m c ch ≡ byStart w s l c ch
+  same-start : byStart ed w s m c ch ≡ byStart ed w s l c ch
   same-start =
       ap (λ (hs : List Happening). cond (eqb (word s (enableAt c)) 1) hs [])
       (same-at true _ _ (same-enter m (firstOf c) l (firstOf c) same 0 (omega arith)) (placed-enter l (firstOf c) 0 (omega arith)))
 
-  pub same-tick : (p : Phase) → PhaseSound p → inPhase p w s m c ch ≡ inPhase p w s l c ch
+  pub same-tick : (p : Phase) → PhaseSound p → inPhase ed p w s m c ch ≡ inPhase ed p w s l c ch
   same-tick Rest h = refl
   same-tick (Counting n older) h = rw (same-start, same-ramp older (h .ramp))
   same-tick (Running r) h = same-ramp (Going r) h
   same-tick (FreeRunning r) h = refl
 
-pub four-fresh : (k : ℕ) → k < 4 → channelOf cardReset k ≡ resetChannel
+pub four-fresh : (ed : Edition) (k : ℕ) → k < 4 → channelOf (cardReset ed) k ≡ resetChannel
 unfolding cardReset
-four-fresh zero h = refl
-four-fresh (suc zero) h = refl
-four-fresh (suc (suc zero)) h = refl
-four-fresh (suc (suc (suc zero))) h = refl
-four-fresh (suc (suc (suc (suc k)))) h = absurd (omega arith)
+four-fresh ed zero h = refl
+four-fresh ed (suc zero) h = refl
+four-fresh ed (suc (suc zero)) h = refl
+four-fresh ed (suc (suc (suc zero))) h = refl
+four-fresh ed (suc (suc (suc (suc k)))) h = absurd (omega arith)
 
 -- ---- the card's channel c
 
@@ -262,7 +263,7 @@ module _ (c : ℕ) (inside : c < 4) where
       → Right (channelOf (advanced waves st .card) c) (told c x (inTick waves st c))
   advanced-right waves st h x r =
       subst (λ hs. Right (channelOf (advanced waves st .card) c) (told c x hs)) happen
-      (subst (λ k. Right k (told c x (inPhase (ch .phase) waves (st .settings) (y .mid) c ch))) (tick-same waves st c y) (tick-right (st .settings) (y .mid) c ch x r waves))
+      (subst (λ k. Right k (told c x (inPhase (st .card .edition) (ch .phase) waves (st .settings) (y .mid) c ch))) (tick-same waves st c y) (tick-right (st .settings) (y .mid) c ch x r waves (st .card .edition)))
     where
       ch : Channel
       ch = channelOf (st .card) c
@@ -271,10 +272,10 @@ module _ (c : ℕ) (inside : c < 4) where
       y = tick-turn waves st c inside
 
       same : SameTable (y .mid) (firstOf c) (st .tables) (firstOf c)
-      same = rw (y .comes) at (untimed-table c (side ch (st .tables)) (y .before) (y .none) (omega (arith, h .tables .many)))
+      same = rw (y .comes (st .card .edition)) at (untimed-table (st .card .edition) c (side ch (st .tables)) (y .before) (y .none) (omega (arith, h .tables .many)))
 
-      happen : inPhase (ch .phase) waves (st .settings) (y .mid) c ch ≡ inPhase (ch .phase) waves (st .settings) (st .tables) c ch
-      happen = same-tick waves (st .settings) (st .tables) (y .mid) c ch same (ch .phase) (h .card .channels c .phase)
+      happen : inPhase (st .card .edition) (ch .phase) waves (st .settings) (y .mid) c ch ≡ inPhase (st .card .edition) (ch .phase) waves (st .settings) (st .tables) c ch
+      happen = same-tick (st .card .edition) waves (st .settings) (st .tables) (y .mid) c ch same (ch .phase) (h .card .channels c .phase)
 
   struck-right : (st : State) (level event : ℕ) (x : Told) → Right (channelOf (st .card) c) x
       → Right (channelOf (triggerOf st level event .card) c) (told c x (byTrigger (Level level) (st .settings) c))
@@ -357,8 +358,8 @@ module _ (c : ℕ) (inside : c < 4) where
 
   -- ---- any act
 
-  reset-right : (s l : List ℕ) → Right (channelOf (resetOf s l .card) c) fresh
-  reset-right s l = rw (four-fresh c inside) (record { loaded = refl; place = refl; amplitude = refl; output = refl; overflow = refl; counter = refl })
+  reset-right : (ed : Edition) (s l : List ℕ) → Right (channelOf (freshOf ed s l .card) c) fresh
+  reset-right ed s l = rw (four-fresh ed c inside) (record { loaded = refl; place = refl; amplitude = refl; output = refl; overflow = refl; counter = refl })
 
   act-right : (st : State) → Sound st → (y : Act) (x : Told) → Right (channelOf (st .card) c) x → Right (channelOf (act st y .card) c) (told c x (happens c st y))
   unfolding advanced
@@ -387,7 +388,7 @@ module _ (c : ℕ) (inside : c < 4) where
       go Nobody e = write-goes st start count ws (h .card .four) e .right x r
   act-right st h (Ask what) x r = r
   act-right st h (HandIn to ws) x r = r
-  act-right st h Reset x r = reset-right (st .settings) (st .tables)
+  act-right st h Reset x r = reset-right (st .card .edition) (st .settings) (st .tables)
 
   acts-right : (st : State) → Sound st → (xs : List Act) → Words16 xs → (x : Told) → Right (channelOf (st .card) c) x
       → Right (channelOf (acts st xs .card) c) (told c x (story c st xs))
@@ -415,11 +416,11 @@ module _ (c : ℕ) (inside : c < 4) where
 -- A CHANNEL'S WORDS SHOW WHAT ITS STORY TELLS
 pub channels-right : ChannelsRight
 unfolding ChannelsRight
-channels-right s l p q xs w c h =
-    reads c h (acts (resetOf s l) xs) (told c fresh (story c (resetOf s l) xs))
-    (acts-right c h (resetOf s l) (reachable .reset s l p q) xs w fresh (reset-right c h s l))
+channels-right ed s l p q xs w c h =
+    reads c h (acts (freshOf ed s l) xs) (told c fresh (story c (freshOf ed s l) xs))
+    (acts-right c h (freshOf ed s l) (reachable .reset ed s l p q) xs w fresh (reset-right c h ed s l))
 
 -- AFTER A RESET NO CHANNEL COUNTS OR RUNS
 pub at-rest : AtRest
 unfolding AtRest
-at-rest s l c h = rw (four-fresh c h)
+at-rest ed s l c h = rw (four-fresh ed c h)

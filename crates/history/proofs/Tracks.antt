@@ -8,6 +8,7 @@ use native.Mathlib.Omega.{arith}
 use lib.Dec.{leb}
 use lib.ListN.{length}
 use borrow.Author.Tests.{leb-true, leb-false}
+use Rattle.sum.specs.declared.Edition.{Edition}
 use Rattle.slots.specs.declared.Holder.the-variants.{Level, Nobody}
 use Rattle.channel.specs.Channel.{Side, side, tickOf, triggered}
 use Rattle.card.specs.declared.Card.{Card}
@@ -26,6 +27,7 @@ use Rattle.history.specs.Countdowns.{justBefore}
 use Rattle.history.specs.Demand3.{sideAt}
 use Rattle.history.proofs.Cards.{count-channels}
 use Rattle.history.proofs.Turns.{Turn, turn}
+use Rattle.history.proofs.Editions.{act-edition}
 use Rattle.history.proofs.Parts.{Part, write-part}
 use Rattle.history.proofs.Manual.{manual-write}
 
@@ -68,10 +70,10 @@ waves-end z n xs ys e = go (leb (suc n) (C.ticksIn xs)) refl
 -- ---- a tick and a trigger of the card, on channel c
 
 abbrev pub TickTurn : List ℕ → State → ℕ → Type 0
-TickTurn waves st c = Turn (λ b l ch. tickOf (st .settings) waves l b ch) (λ b d l ch o. tick-elsewhere (st .settings) l b d ch o waves) (st .card) (st .tables) c
+TickTurn waves st c = Turn (λ b l ch. tickOf (st .card .edition) (st .settings) waves l b ch) (λ b d l ch o. tick-elsewhere (st .settings) l b d ch o (st .card .edition) waves) (st .card) (st .tables) c
 
 pub tick-turn : (waves : List ℕ) (st : State) (c : ℕ) → c < 4 → TickTurn waves st c
-tick-turn waves st c h = turn (λ b l ch. tickOf (st .settings) waves l b ch) (λ b d l ch o. tick-elsewhere (st .settings) l b d ch o waves) (st .card) (st .tables) c h
+tick-turn waves st c h = turn (λ b l ch. tickOf (st .card .edition) (st .settings) waves l b ch) (λ b d l ch o. tick-elsewhere (st .settings) l b d ch o (st .card .edition) waves) (st .card) (st .tables) c h
 
 pub quiet-tick : (waves : List ℕ) (st : State) (event : ℕ) → triggerBy st (Tick waves event) ≡ Nobody → act st (Tick waves event) ≡ advanced waves st
 unfolding advanced
@@ -83,12 +85,12 @@ advanced-four waves st = refl
 
 -- what the turn leaves is the card's channel after the tick
 pub tick-goes : (waves : List ℕ) (st : State) (c : ℕ) (y : TickTurn waves st c)
-    → C.run c (tickOf (st .settings) waves (y .mid) c (channelOf (st .card) c)) (y .after) ≡ sideAt (advanced waves st) c
+    → (ed : Edition) → C.run ed c (tickOf (st .card .edition) (st .settings) waves (y .mid) c (channelOf (st .card) c)) (y .after) ≡ sideAt (advanced waves st) c
 unfolding advanced
-tick-goes waves st c y = y .goes ∙ ap (λ (x : All). side (channelOf (withChannels (st .card) (x .channels)) c) (x .tables)) (sym (two-passes waves st))
+tick-goes waves st c y ed = y .goes ed ∙ ap (λ (x : All). side (channelOf (withChannels (st .card) (x .channels)) c) (x .tables)) (sym (two-passes waves st))
 
 pub tick-same : (waves : List ℕ) (st : State) (c : ℕ) (y : TickTurn waves st c)
-    → tickOf (st .settings) waves (y .mid) c (channelOf (st .card) c) .channel ≡ channelOf (advanced waves st .card) c
+    → tickOf (st .card .edition) (st .settings) waves (y .mid) c (channelOf (st .card) c) .channel ≡ channelOf (advanced waves st .card) c
 unfolding advanced
 tick-same waves st c y = y .same ∙ ap (λ (x : All). channelOf (withChannels (st .card) (x .channels)) c) (sym (two-passes waves st))
 
@@ -99,11 +101,11 @@ pub trigger-turn : (st : State) (level c : ℕ) → c < 4 → TriggerTurn st lev
 trigger-turn st level c h = turn (λ b l ch. triggered (st .settings) l b ch level) (λ b d l ch o. trigger-elsewhere (st .settings) l b d ch o level) (st .card) (st .tables) c h
 
 pub trigger-goes : (st : State) (level event c : ℕ) (y : TriggerTurn st level c)
-    → C.run c (triggered (st .settings) (y .mid) c (channelOf (st .card) c) level) (y .after) ≡ sideAt (triggerOf st level event) c
+    → (ed : Edition) → C.run ed c (triggered (st .settings) (y .mid) c (channelOf (st .card) c) level) (y .after) ≡ sideAt (triggerOf st level event) c
 unfolding triggerOf
-trigger-goes st level event c y =
+trigger-goes st level event c y ed =
     let k : Card = withChannels (st .card) (struck st level .channels) in
-    y .goes ∙ rw (count-channels k level (grown (countOf k level)))
+    y .goes ed ∙ rw (count-channels k level (grown (countOf k level)))
 
 pub trigger-same : (st : State) (level event c : ℕ) (y : TriggerTurn st level c)
     → triggered (st .settings) (y .mid) c (channelOf (st .card) c) level .channel ≡ channelOf (triggerOf st level event .card) c
@@ -120,19 +122,19 @@ trigger-four st level event =
 
 -- ---- a history without triggers, on channel c
 
-pub record Tracked (c : ℕ) (st : State) (xs : List Act) : Type 0 where
+pub record Tracked (ed : Edition) (c : ℕ) (st : State) (xs : List Act) : Type 0 where
   pub doings : List C.Act
   pub same-ticks : C.ticksIn doings ≡ ticksIn xs
-  pub runs : C.run c (sideAt st c) doings ≡ sideAt (acts st xs) c
+  pub runs : C.run ed c (sideAt st c) doings ≡ sideAt (acts st xs) c
   pub held : (s z : List ℕ) → acts st xs .settings ≡ z → (n : ℕ) → C.heldOn s z (suc n) doings ≡ acts st (until (suc n) xs) .settings
   pub waves : (z : List ℕ) (n : ℕ) → C.wavesOn z (suc n) doings ≡ wavesOn z (suc n) xs
-  pub passes : (n : ℕ) → C.run c (sideAt st c) (C.until (suc n) doings) .channel ≡ channelOf (acts st (until (suc n) xs) .card) c
+  pub passes : (n : ℕ) → C.run ed c (sideAt st c) (C.until (suc n) doings) .channel ≡ channelOf (acts st (until (suc n) xs) .card) c
   pub settled : length (acts st xs .card .channels) ≡ 4
 
-module _ (c : ℕ) (inside : c < 4) where
-  after-tick : (waves : List ℕ) (st : State) (event : ℕ) (xs : List Act) → act st (Tick waves event) ≡ advanced waves st → TickTurn waves st c → Tracked c (act st (Tick waves event)) xs
-      → Tracked c st (Tick waves event ∷ xs)
-  after-tick waves st event xs q y r =
+module _ (ed : Edition) (c : ℕ) (inside : c < 4) where
+  after-tick : (waves : List ℕ) (st : State) (event : ℕ) (xs : List Act) → st .card .edition ≡ ed → act st (Tick waves event) ≡ advanced waves st → TickTurn waves st c → Tracked ed c (act st (Tick waves event)) xs
+      → Tracked ed c st (Tick waves event ∷ xs)
+  after-tick waves st event xs own q y r =
       record {
         doings = y .before ++ (C.Tick (st .settings) waves ∷ rest);
         same-ticks =
@@ -149,20 +151,20 @@ module _ (c : ℕ) (inside : c < 4) where
       rest = y .after ++ r .doings
 
       -- the tick, and what is done from there on
-      ticked : (zs : List C.Act) → C.run c (sideAt st c) (y .before ++ (C.Tick (st .settings) waves ∷ (y .after ++ zs))) ≡ C.run c (sideAt (act st (Tick waves event)) c) zs
+      ticked : (zs : List C.Act) → C.run ed c (sideAt st c) (y .before ++ (C.Tick (st .settings) waves ∷ (y .after ++ zs))) ≡ C.run ed c (sideAt (act st (Tick waves event)) c) zs
       ticked zs =
-          run-append c (sideAt st c) (y .before) (C.Tick (st .settings) waves ∷ (y .after ++ zs))
-          ∙ ap (λ (x : Side). C.run c x (C.Tick (st .settings) waves ∷ (y .after ++ zs))) (y .comes)
-          ∙ run-append c (tickOf (st .settings) waves (y .mid) c (channelOf (st .card) c)) (y .after) zs
-          ∙ ap (λ (x : Side). C.run c x zs) (tick-goes waves st c y ∙ ap (λ (x : State). sideAt x c) (sym q))
+          run-append ed c (sideAt st c) (y .before) (C.Tick (st .settings) waves ∷ (y .after ++ zs))
+          ∙ ap (λ (x : Side). C.run ed c x (C.Tick (st .settings) waves ∷ (y .after ++ zs))) (y .comes ed)
+          ∙ run-append ed c (tickOf ed (st .settings) waves (y .mid) c (channelOf (st .card) c)) (y .after) zs
+          ∙ ap (λ (x : Side). C.run ed c x zs) (ap (λ (i : Edition). C.run ed c (tickOf i (st .settings) waves (y .mid) c (channelOf (st .card) c)) (y .after)) (sym own) ∙ tick-goes waves st c y ed ∙ ap (λ (x : State). sideAt x c) (sym q))
 
-      passes : (n : ℕ) → C.run c (sideAt st c) (C.until (suc n) (y .before ++ (C.Tick (st .settings) waves ∷ rest))) .channel
+      passes : (n : ℕ) → C.run ed c (sideAt st c) (C.until (suc n) (y .before ++ (C.Tick (st .settings) waves ∷ rest))) .channel
           ≡ channelOf (acts st (until (suc n) (Tick waves event ∷ xs)) .card) c
       passes zero =
-          ap (λ (zs : List C.Act). C.run c (sideAt st c) zs .channel) (until-untimed 0 (y .before) (C.Tick (st .settings) waves ∷ rest) (y .none))
-          ∙ ap (λ (x : Side). x .channel) (run-append c (sideAt st c) (y .before) [] ∙ y .comes)
+          ap (λ (zs : List C.Act). C.run ed c (sideAt st c) zs .channel) (until-untimed 0 (y .before) (C.Tick (st .settings) waves ∷ rest) (y .none))
+          ∙ ap (λ (x : Side). x .channel) (run-append ed c (sideAt st c) (y .before) [] ∙ y .comes ed)
       passes (suc n) =
-          ap (λ (zs : List C.Act). C.run c (sideAt st c) zs .channel)
+          ap (λ (zs : List C.Act). C.run ed c (sideAt st c) zs .channel)
           (until-untimed (suc n) (y .before) (C.Tick (st .settings) waves ∷ rest) (y .none)
           ∙ ap (λ (zs : List C.Act). y .before ++ (C.Tick (st .settings) waves ∷ zs)) (until-untimed n (y .after) (r .doings) (y .none-after)))
           ∙ ap (λ (x : Side). x .channel) (ticked (C.until (suc n) (r .doings)))
@@ -183,49 +185,49 @@ module _ (c : ℕ) (inside : c < 4) where
           ∙ waves-untimed z n (y .after) (r .doings) (y .none-after)
           ∙ r .waves z n
 
-  after-write : (st : State) (start count : ℕ) (ws : List ℕ) (xs : List Act) → Part c st (act st (Write start count ws)) → Tracked c (act st (Write start count ws)) xs
-      → Tracked c st (Write start count ws ∷ xs)
+  after-write : (st : State) (start count : ℕ) (ws : List ℕ) (xs : List Act) → Part c st (act st (Write start count ws)) → Tracked ed c (act st (Write start count ws)) xs
+      → Tracked ed c st (Write start count ws ∷ xs)
   after-write st start count ws xs p r =
       record {
         doings = p .acts ++ r .doings;
         same-ticks = ticks-append (p .acts) (r .doings) ∙ omega (arith, p .none, r .same-ticks);
-        runs = run-append c (sideAt st c) (p .acts) (r .doings) ∙ ap (λ (x : Side). C.run c x (r .doings)) (p .runs) ∙ r .runs;
+        runs = run-append ed c (sideAt st c) (p .acts) (r .doings) ∙ ap (λ (x : Side). C.run ed c x (r .doings)) (p .runs ed) ∙ r .runs;
         held = λ s z e n. held-untimed s z n (p .acts) (r .doings) (p .none) ∙ r .held s z e n;
         waves = λ z n. waves-untimed z n (p .acts) (r .doings) (p .none) ∙ r .waves z n;
         passes =
-            λ n. ap (λ (zs : List C.Act). C.run c (sideAt st c) zs .channel) (until-untimed n (p .acts) (r .doings) (p .none))
+            λ n. ap (λ (zs : List C.Act). C.run ed c (sideAt st c) zs .channel) (until-untimed n (p .acts) (r .doings) (p .none))
             ∙ ap (λ (x : Side). x .channel)
-            (run-append c (sideAt st c) (p .acts) (C.until (suc n) (r .doings)) ∙ ap (λ (x : Side). C.run c x (C.until (suc n) (r .doings))) (p .runs))
+            (run-append ed c (sideAt st c) (p .acts) (C.until (suc n) (r .doings)) ∙ ap (λ (x : Side). C.run ed c x (C.until (suc n) (r .doings))) (p .runs ed))
             ∙ r .passes n;
         settled = r .settled;
       }
 
-  pub tracked : (st : State) (xs : List Act) → length (st .card .channels) ≡ 4 → Quiet st xs → Tracked c st xs
-  tracked st [] f q = record { doings = []; same-ticks = refl; runs = refl; held = λ s z e n. sym e; waves = λ z n. refl; passes = λ n. refl; settled = f }
-  tracked st (Tick waves event ∷ xs) f q =
+  pub tracked : (st : State) (xs : List Act) → st .card .edition ≡ ed → length (st .card .channels) ≡ 4 → Quiet st xs → Tracked ed c st xs
+  tracked st [] own f q = record { doings = []; same-ticks = refl; runs = refl; held = λ s z e n. sym e; waves = λ z n. refl; passes = λ n. refl; settled = f }
+  tracked st (Tick waves event ∷ xs) own f q =
       let e = quiet-tick waves st event (q .0 .noTrigger) in
-      after-tick waves st event xs e (tick-turn waves st c inside) (tracked (act st (Tick waves event)) xs (rw e (advanced-four waves st)) (q .1))
-  tracked st (Write start count ws ∷ xs) f q =
+      after-tick waves st event xs own e (tick-turn waves st c inside) (tracked (act st (Tick waves event)) xs (act-edition st (Tick waves event) ∙ own) (rw e (advanced-four waves st)) (q .1))
+  tracked st (Write start count ws ∷ xs) own f q =
       let p = write-part c inside st start count ws f (q .0 .noTrigger) in
-      after-write st start count ws xs p (tracked (act st (Write start count ws)) xs (p .settled) (q .1))
-  tracked st (Ask what ∷ xs) f q =
-      let r = tracked st xs f (q .1) in
+      after-write st start count ws xs p (tracked (act st (Write start count ws)) xs (act-edition st (Write start count ws) ∙ own) (p .settled) (q .1))
+  tracked st (Ask what ∷ xs) own f q =
+      let r = tracked st xs own f (q .1) in
       record { doings = r .doings; same-ticks = r .same-ticks; runs = r .runs; held = r .held; waves = r .waves; passes = r .passes; settled = r .settled }
-  tracked st (HandIn to ws ∷ xs) f q =
-      let r = tracked st xs f (q .1) in
+  tracked st (HandIn to ws ∷ xs) own f q =
+      let r = tracked st xs own f (q .1) in
       record { doings = r .doings; same-ticks = r .same-ticks; runs = r .runs; held = r .held; waves = r .waves; passes = r .passes; settled = r .settled }
-  tracked st (Reset ∷ xs) f q = absurd (true≢false (q .0 .noReset))
+  tracked st (Reset ∷ xs) own f q = absurd (true≢false (q .0 .noReset))
 
 -- ---- the trigger
 
 pub advanced-room : (waves : List ℕ) (st : State) → length (advanced waves st .tables) ≡ length (st .tables)
 advanced-room waves st =
     let y = tick-turn waves st 0 (omega arith) in
-    ap (λ (x : Side). length (x .tables)) (sym (tick-goes waves st 0 y))
-    ∙ run-length 0 (tickOf (st .settings) waves (y .mid) 0 (channelOf (st .card) 0)) (y .after)
-    ∙ run-length 0 (side (channelOf (st .card) 0) (y .mid)) (C.Tick (st .settings) waves ∷ [])
-    ∙ ap (λ (x : Side). length (x .tables)) (sym (y .comes))
-    ∙ run-length 0 (sideAt st 0) (y .before)
+    ap (λ (x : Side). length (x .tables)) (sym (tick-goes waves st 0 y (st .card .edition)))
+    ∙ run-length (st .card .edition) 0 (tickOf (st .card .edition) (st .settings) waves (y .mid) 0 (channelOf (st .card) 0)) (y .after)
+    ∙ run-length (st .card .edition) 0 (side (channelOf (st .card) 0) (y .mid)) (C.Tick (st .settings) waves ∷ [])
+    ∙ ap (λ (x : Side). length (x .tables)) (sym (y .comes (st .card .edition)))
+    ∙ run-length (st .card .edition) 0 (sideAt st 0) (y .before)
 
 -- AN ACT THAT IS A TRIGGER TRIGGERS THE STATE THAT IT COMES TO
 pub trigger-is : (st : State) (x : Act) (level : ℕ) → triggerBy st x ≡ Level level → act st x ≡ triggerOf (justBefore st x) level (eventBy x)

@@ -5,6 +5,8 @@ use mathlib.Core.List.{List, [], _∷_}
 use Prim.Native.Nat.{ℕ, zero, suc, _<_}
 use native.Mathlib.Omega.{arith}
 use lib.ListN.{length}
+use Rattle.sum.specs.declared.Edition.{Edition}
+use Rattle.sum.specs.declared.Edition.the-variants.{First}
 use Rattle.channel.specs.declared.Channel.{Channel}
 use Rattle.channel.specs.Channel.{Side, side}
 use Rattle.card.specs.declared.Card.{Card}
@@ -22,12 +24,12 @@ module _ (f : ℕ → List ℕ → Channel → Side)
     pub mid : List ℕ
     pub none : C.ticksIn before ≡ 0
     pub none-after : C.ticksIn after ≡ 0
-    pub comes : C.run c (side (channelOf k c) l) before ≡ side (channelOf k c) mid
+    pub comes : (ed : Edition) → C.run ed c (side (channelOf k c) l) before ≡ side (channelOf k c) mid
     pub same : f c mid (channelOf k c) .channel ≡ channelOf (withChannels k (onAll f k l .channels)) c
-    pub goes : C.run c (f c mid (channelOf k c)) after ≡ side (channelOf (withChannels k (onAll f k l .channels)) c) (onAll f k l .tables)
+    pub goes : (ed : Edition) → C.run ed c (f c mid (channelOf k c)) after ≡ side (channelOf (withChannels k (onAll f k l .channels)) c) (onAll f k l .tables)
 
   pub mid-length : (c : ℕ) (y : Turn c) → length (y .mid) ≡ length l
-  mid-length c y = sym (ap (λ (x : Side). length (x .tables)) (y .comes)) ∙ run-length c (side (channelOf k c) l) (y .before)
+  mid-length c y = sym (ap (λ (x : Side). length (x .tables)) (y .comes First)) ∙ run-length First c (side (channelOf k c) l) (y .before)
 
   -- the four turns
   abbrev one : Side
@@ -51,10 +53,10 @@ module _ (f : ℕ → List ℕ → Channel → Side)
         mid = l;
         none = refl;
         none-after = refl;
-        comes = refl;
+        comes = λ ed. refl;
         same = refl;
         goes =
-            rw (
+            λ ed. rw (
               beside 1 0 (one .tables) (channelOf k 1) (λ e. omega arith),
               beside 2 0 (two .tables) (channelOf k 2) (λ e. omega arith),
               beside 3 0 (three .tables) (channelOf k 3) (λ e. omega arith),
@@ -67,9 +69,9 @@ module _ (f : ℕ → List ℕ → Channel → Side)
         mid = one .tables;
         none = refl;
         none-after = refl;
-        comes = rw (beside 0 1 l (channelOf k 0) (λ e. omega arith));
+        comes = λ ed. rw (beside 0 1 l (channelOf k 0) (λ e. omega arith));
         same = refl;
-        goes = rw (beside 2 1 (two .tables) (channelOf k 2) (λ e. omega arith), beside 3 1 (three .tables) (channelOf k 3) (λ e. omega arith));
+        goes = λ ed. rw (beside 2 1 (two .tables) (channelOf k 2) (λ e. omega arith), beside 3 1 (three .tables) (channelOf k 3) (λ e. omega arith));
       }
   turn (suc (suc zero)) h =
       record {
@@ -78,9 +80,9 @@ module _ (f : ℕ → List ℕ → Channel → Side)
         mid = two .tables;
         none = refl;
         none-after = refl;
-        comes = rw (beside 0 2 l (channelOf k 0) (λ e. omega arith), beside 1 2 (one .tables) (channelOf k 1) (λ e. omega arith));
+        comes = λ ed. rw (beside 0 2 l (channelOf k 0) (λ e. omega arith), beside 1 2 (one .tables) (channelOf k 1) (λ e. omega arith));
         same = refl;
-        goes = rw (beside 3 2 (three .tables) (channelOf k 3) (λ e. omega arith));
+        goes = λ ed. rw (beside 3 2 (three .tables) (channelOf k 3) (λ e. omega arith));
       }
   turn (suc (suc (suc zero))) h =
       record {
@@ -90,12 +92,12 @@ module _ (f : ℕ → List ℕ → Channel → Side)
         none = refl;
         none-after = refl;
         comes =
-            rw (
+            λ ed. rw (
               beside 0 3 l (channelOf k 0) (λ e. omega arith),
               beside 1 3 (one .tables) (channelOf k 1) (λ e. omega arith),
               beside 2 3 (two .tables) (channelOf k 2) (λ e. omega arith),
             );
         same = refl;
-        goes = refl;
+        goes = λ ed. refl;
       }
   turn (suc (suc (suc (suc c)))) h = absurd (omega arith)

@@ -10,6 +10,7 @@ use native.Mathlib.Nat.{le-max-left}
 use lib.Dec.{ltb, eqb}
 use lib.ListN.{length}
 use borrow.Author.Tests.{ne-eqb, eqb-true, eqb-false, ltb-true, ltb-false}
+use Rattle.sum.specs.declared.Edition.{Edition}
 use Rattle.map.specs.Addresses.{delayAt, enableAt}
 use Rattle.word.specs.Word.{lasting}
 use Rattle.word.specs.declared.Micros.{Micros}
@@ -47,19 +48,19 @@ use Rattle.history.proofs.Gives.{GaveIn, move-tells, in-told, made-in, 
 
 -- ---- a load, by counting
 
-pub counts-load : (z w l : List ℕ) (c : ℕ) (ch : Channel) → loadsAt (toStart (ch .phase) - 1) ≡ true → tickOf z w l c ch ≡ load z l c ch (ch .level)
-counts-load z w l c ch = go (ch .phase) refl
+pub counts-load : (ed : Edition) (z w l : List ℕ) (c : ℕ) (ch : Channel) → loadsAt (toStart (ch .phase) - 1) ≡ true → tickOf ed z w l c ch ≡ load z l c ch (ch .level)
+counts-load ed z w l c ch = go (ch .phase) refl
   where
-    go : (p : Phase) → ch .phase ≡ p → loadsAt (toStart p - 1) ≡ true → tickOf z w l c ch ≡ load z l c ch (ch .level)
-    go (Counting n older) e q = let d = eqb-true (n .0 - 1) lead q in tick-load z l c ch w (n .0) older e (omega arith)
+    go : (p : Phase) → ch .phase ≡ p → loadsAt (toStart p - 1) ≡ true → tickOf ed z w l c ch ≡ load z l c ch (ch .level)
+    go (Counting n older) e q = let d = eqb-true (n .0 - 1) lead q in tick-load ed z l c ch w (n .0) older e (omega arith)
     go Rest e q = absurd (true≢false (sym q))
     go (Running r) e q = absurd (true≢false (sym q))
     go (FreeRunning r) e q = absurd (true≢false (sym q))
 
 -- what is told of it is no sample
-load-told : (w z l : List ℕ) (c : ℕ) (ch : Channel) → loadsAt (toStart (ch .phase) - 1) ≡ true → outBeforeLoad (byTick w z l c ch) ≡ false
-load-told w z l c ch q =
-    rw (counting-load w z l c ch (ch .phase) (tick-loads w z l c ch (ch .phase) ∙ q))
+load-told : (ed : Edition) (w z l : List ℕ) (c : ℕ) (ch : Channel) → loadsAt (toStart (ch .phase) - 1) ≡ true → outBeforeLoad (byTick ed w z l c ch) ≡ false
+load-told ed w z l c ch q =
+    rw (counting-load ed w z l c ch (ch .phase) (tick-loads ed w z l c ch (ch .phase) ∙ q))
 
 -- a countdown that is set and does not load stands above 10
 not-load : (z : List ℕ) (c level : ℕ) → loadsAt (countdown z c level) ≡ false → lead < countdown z c level
@@ -67,7 +68,7 @@ not-load z c level l = let d = eqb-false (countdown z c level) lead l in omega (
 
 -- ---- one channel, from a load for level v under the settings s to the next
 
-module _ (s : List ℕ) (c v : ℕ) where
+module _ (ed : Edition) (s : List ℕ) (c v : ℕ) where
   abbrev pub T : ℕ
   T = totalFor s c v
 
@@ -76,7 +77,7 @@ module _ (s : List ℕ) (c v : ℕ) where
 
   -- the channel holds the copy
   abbrev pub Holds : Side → Type 0
-  Holds x = Held c v s 0 0 x
+  Holds x = Held ed c v s 0 0 x
 
   -- a sample before the last
   pub record BeforeLast (p : Place) : Type 0 where
@@ -104,8 +105,8 @@ module _ (s : List ℕ) (c v : ℕ) where
   kept-under x y e f g (resting d) = resting (e ∙ d)
   kept-under x y e f g (waiting n d l) = waiting n (e ∙ d) l
 
-  pub untimed-under : (x : Side) (ys : List C.Act) → C.ticksIn ys ≡ 0 → 128 * c + 128 ≤ length (x .tables) → Under x → Under (C.run c x ys)
-  untimed-under x ys e h u = let r = untimed-ramp c x ys e in kept-under x (C.run c x ys) (r .0) (r .1) (untimed-table c x ys e h) u
+  pub untimed-under : (x : Side) (ys : List C.Act) → C.ticksIn ys ≡ 0 → 128 * c + 128 ≤ length (x .tables) → Under x → Under (C.run ed c x ys)
+  untimed-under x ys e h u = let r = untimed-ramp ed c x ys e in kept-under x (C.run ed c x ys) (r .0) (r .1) (untimed-table ed c x ys e h) u
 
   -- a trigger that does not load
   pub triggered-under : (z : List ℕ) (x : Side) (level : ℕ) → loadsAt (countdown z c level) ≡ false → Under x → Under (triggered z (x .tables) c (x .channel) level)
@@ -126,14 +127,14 @@ module _ (s : List ℕ) (c v : ℕ) where
   -- the load
   pub load-under : (x : Side) → 128 * c + 128 ≤ length (x .tables) → Under (load s (x .tables) c (x .channel) v)
   unfolding load
-  load-under x r = holding (loads c v s 0 0 x r) tt
+  load-under x r = holding (loads ed c v s 0 0 x r) tt
 
   -- ---- the samples, all of them in range
 
-  module _ (fits : InRange s c v) where
-    sum-in : (x : Side) → Holds x → (k : ℕ) → k ≤ T → overflows (sampleAt (x .tables) (firstOf c) (x .channel .loaded) (spot k)) ≡ false
+  module _ (fits : InRange ed s c v) where
+    sum-in : (x : Side) → Holds x → (k : ℕ) → k ≤ T → overflows (sampleAt ed (x .tables) (firstOf c) (x .channel .loaded) (spot k)) ≡ false
     sum-in x h k g =
-        rw (h .loaded) (ap overflows (same-sample (x .tables) (firstOf c) s (tableFor s c v) (h .table) (loadedFor s c v) (spot k) (placed s (tableFor s c v) k)) ∙ fits k g)
+        rw (h .loaded) (ap overflows (same-sample (x .tables) (firstOf c) s (tableFor s c v) (h .table) ed (loadedFor s c v) (spot k) (placed s (tableFor s c v) k)) ∙ fits k g)
 
     record Steps (ld : Loaded) (m : Moved) : Type 0 where
       ours : Ours (m .ramp)
@@ -157,7 +158,7 @@ module _ (s : List ℕ) (c v : ℕ) where
         go false q = record { number = k; before = less (ltb k T) refl q; here = refl }
 
     sample-steps : (x : Side) → Holds x → (isFirst : Bool) (period k : ℕ) → k ≤ T → (p : Place) → p ≡ spot k
-        → Steps (x .channel .loaded) (given isFirst (x .tables) (firstOf c) (x .channel .loaded) period p (x .channel .shown))
+        → Steps (x .channel .loaded) (given ed isFirst (x .tables) (firstOf c) (x .channel .loaded) period p (x .channel .shown))
     unfolding given
     sample-steps x h isFirst period k g p e = rw e (record { ours = onward-ours (x .channel .loaded) period k (h .loaded) g; gave = sum-in x h k g })
 
@@ -169,7 +170,7 @@ module _ (s : List ℕ) (c v : ℕ) where
     first-spot : (x : Side) → Holds x → enter (x .tables) (firstOf c) 0 ≡ spot 0
     first-spot x h = same-enter (x .tables) (firstOf c) s (tableFor s c v) (h .table) 0 (omega arith) ∙ place-first s (tableFor s c v)
 
-    ramp-steps : (x : Side) → Holds x → (r : Ramp) → Ours r → Steps (x .channel .loaded) (advance (x .tables) (firstOf c) (x .channel .loaded) r (x .channel .shown))
+    ramp-steps : (x : Side) → Holds x → (r : Ramp) → Ours r → Steps (x .channel .loaded) (advance ed (x .tables) (firstOf c) (x .channel .loaded) r (x .channel .shown))
     unfolding advance
     ramp-steps x h Still o = record { ours = tt; gave = tt }
     ramp-steps x h (Going r) o =
@@ -199,7 +200,7 @@ module _ (s : List ℕ) (c v : ℕ) where
           signal = refl;
         }
 
-    start-safe : (z : List ℕ) (x : Side) → Holds x → Safe (x .channel) (start z (x .tables) c (x .channel))
+    start-safe : (z : List ℕ) (x : Side) → Holds x → Safe (x .channel) (start ed z (x .tables) c (x .channel))
     unfolding start
     start-safe z x h =
         choose (Safe (x .channel)) (eqb (word z (enableAt c)) 1) _ _
@@ -208,15 +209,15 @@ module _ (s : List ℕ) (c v : ℕ) where
 
     -- no load is reached
     move-safe : (z : List ℕ) (x : Side) → Under x → (p : Phase) → x .channel .phase ≡ p → loadsAt (toStart p - 1) ≡ false
-        → Safe (x .channel) (moveAt p z (x .tables) c (x .channel))
+        → Safe (x .channel) (moveAt ed p z (x .tables) c (x .channel))
     unfolding moveAt countTo advance
     move-safe z x (holding h o) Rest e l = record { under = holding (record { loaded = h .loaded; table = h .table }) o; gave = tt; loaded = refl; signal = refl }
     move-safe z x (holding h o) (Counting n older) e l = go (eqb (n .0 - 1) 0)
       where
         m : Moved
-        m = advance (x .tables) (firstOf c) (x .channel .loaded) older (x .channel .shown)
+        m = advance ed (x .tables) (firstOf c) (x .channel .loaded) older (x .channel .shown)
 
-        go : (b : Bool) → Safe (x .channel) (cond b (start z (x .tables) c (x .channel))
+        go : (b : Bool) → Safe (x .channel) (cond b (start ed z (x .tables) c (x .channel))
             (cond (loadsAt (n .0 - 1)) (quiet (load z (x .tables) c (x .channel) (x .channel .level)))
             (move (with (x .channel) (Counting (record { 0 = n .0 - 1 }) (m .ramp)) (m .shown)) (x .tables) (m .gave))))
         go true = start-safe z x h
@@ -240,29 +241,29 @@ module _ (s : List ℕ) (c v : ℕ) where
     sounded-under ch l g u = kept-under (side ch l) (side (withSignal ch g) l) refl refl (λ i h. refl) u
 
     module _ (z w : List ℕ) (x : Side) (u : Under x) where
-      safe : loadsAt (toStart (x .channel .phase) - 1) ≡ false → Safe (x .channel) (moveOf z (x .tables) c (x .channel))
+      safe : loadsAt (toStart (x .channel .phase) - 1) ≡ false → Safe (x .channel) (moveOf ed z (x .tables) c (x .channel))
       safe none = move-safe z x u (x .channel .phase) refl none
 
-      pub tick-under : loadsAt (toStart (x .channel .phase) - 1) ≡ false → Under (tickOf z w (x .tables) c (x .channel))
+      pub tick-under : loadsAt (toStart (x .channel .phase) - 1) ≡ false → Under (tickOf ed z w (x .tables) c (x .channel))
       unfolding tickOf
       tick-under none = sounded-under _ _ _ (safe none .under)
 
       -- with a load or without
-      pub tick-told : outBeforeLoad (byTick w z (x .tables) c (x .channel)) ≡ false
+      pub tick-told : outBeforeLoad (byTick ed w z (x .tables) c (x .channel)) ≡ false
       tick-told = go (loadsAt (toStart (x .channel .phase) - 1)) refl
         where
-          go : (b : Bool) → loadsAt (toStart (x .channel .phase) - 1) ≡ b → outBeforeLoad (byTick w z (x .tables) c (x .channel)) ≡ false
-          go true q = load-told w z (x .tables) c (x .channel) q
-          go false q = in-told (x .channel .loaded .tone) _ _ (move-tells w z (x .tables) c (x .channel) (x .channel .phase)) (safe q .gave)
+          go : (b : Bool) → loadsAt (toStart (x .channel .phase) - 1) ≡ b → outBeforeLoad (byTick ed w z (x .tables) c (x .channel)) ≡ false
+          go true q = load-told ed w z (x .tables) c (x .channel) q
+          go false q = in-told (x .channel .loaded .tone) _ _ (move-tells ed w z (x .tables) c (x .channel) (x .channel .phase)) (safe q .gave)
 
-      pub tick-counted : Counted c w (byTick w z (x .tables) c (x .channel)) (x .channel) (tickOf z w (x .tables) c (x .channel) .channel)
+      pub tick-counted : Counted c w (byTick ed w z (x .tables) c (x .channel)) (x .channel) (tickOf ed z w (x .tables) c (x .channel) .channel)
       unfolding tickOf load
       tick-counted = go (loadsAt (toStart (x .channel .phase) - 1)) refl
         where
           go : (b : Bool) → loadsAt (toStart (x .channel .phase) - 1) ≡ b
-              → Counted c w (byTick w z (x .tables) c (x .channel)) (x .channel) (tickOf z w (x .tables) c (x .channel) .channel)
-          go true q = inl (ap (λ (y : Side). y .channel .signal .overflow) (counts-load z w (x .tables) c (x .channel) q))
+              → Counted c w (byTick ed w z (x .tables) c (x .channel)) (x .channel) (tickOf ed z w (x .tables) c (x .channel) .channel)
+          go true q = inl (ap (λ (y : Side). y .channel .signal .overflow) (counts-load ed z w (x .tables) c (x .channel) q))
           go false q =
               rw (safe q .loaded, safe q .signal)
-              (made-told c w _ _ (move-tells w z (x .tables) c (x .channel) (x .channel .phase)) (x .channel .loaded .tone) _ (x .channel .signal) _
+              (made-told c w _ _ (move-tells ed w z (x .tables) c (x .channel) (x .channel .phase)) (x .channel .loaded .tone) _ (x .channel .signal) _
               (made-in c w _ (x .channel .loaded .tone) (safe q .gave) _ (x .channel .signal)))

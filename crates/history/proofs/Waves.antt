@@ -14,6 +14,7 @@ use borrow.Author.Tests.{ltb-false, le-ltb, eqb-true, eqb-false, eq-eqb}
 use Rattle.word.specs.Word.{signedOf}
 use Rattle.word.specs.Copy.{copied}
 use Rattle.word.specs.Every.{every}
+use Rattle.sum.specs.declared.Edition.{Edition}
 use Rattle.slots.proofs.Fills.{filled-length, filled-in}
 use Rattle.wave.specs.Sine.{entries, waveOf, waveAt}
 use Rattle.wave.specs.Laws.{InWave}
@@ -21,7 +22,7 @@ use Rattle.channel.specs.Channel.{runsOf}
 use Rattle.course.proofs.Copies.{copied-length, copied-in, copied-out}
 use Rattle.card.specs.declared.Card.{Card}
 use Rattle.card.specs.Card.{State, channelOf}
-use Rattle.card.specs.Reset.{wavesReset, resetOf}
+use Rattle.card.specs.Reset.{wavesReset, freshOf}
 use Rattle.wavetable.specs.declared.Reply.the-variants.{Taken, Bad, Running}
 use Rattle.wavetable.specs.Hand.{Handed, handed, inWave, allInWave, badTable, handOf}
 use Rattle.history.specs.History.{Act, Tick, Write, Ask, HandIn, Reset, act, isReset, ticksIn, until, wavesOn}
@@ -219,13 +220,13 @@ whole : (st : State) (w : List ℕ) (xs : List Act) (c : ℕ) → c < 4 → Runs
 whole st w [] c b r i h = refl
 whole st w (x ∷ xs) c b r i h = whole (act st x) (wavesAfter st w x) xs c b (r .2) i h ∙ kept st w x (r .0) c b (r .1) i h
 
-last : (s l w : List ℕ) → length w ≡ 4096 → (xs : List Act) (c : ℕ) → c < 4 → (i : ℕ) → i < entries
-    → getD (wavesIn (resetOf s l) (wavesReset w) xs) (waveOf c + i) 0 ≡ getD (lastTable c (resetOf s l) (wavesReset w) xs (replicate 1024 0)) i 0
-last s l w n xs c b i h = shows-in c b (resetOf s l) (wavesReset w) xs (replicate 1024 0) (reset-shows c b w n) .same i h
+last : (ed : Edition) (s l w : List ℕ) → length w ≡ 4096 → (xs : List Act) (c : ℕ) → c < 4 → (i : ℕ) → i < entries
+    → getD (wavesIn (freshOf ed s l) (wavesReset w) xs) (waveOf c + i) 0 ≡ getD (lastTable c (freshOf ed s l) (wavesReset w) xs (replicate 1024 0)) i 0
+last ed s l w n xs c b i h = shows-in c b (freshOf ed s l) (wavesReset w) xs (replicate 1024 0) (reset-shows c b w n) .same i h
 
-inside : (s l w : List ℕ) → length w ≡ 4096 → (xs : List Act) (c : ℕ) → c < 4 → (i : ℕ) → i < entries
-    → InWave (waveAt (wavesIn (resetOf s l) (wavesReset w) xs) c i)
-inside s l w n xs c b i h = rw (last s l w n xs c b i h) (inside-in c (resetOf s l) (wavesReset w) xs (replicate 1024 0) zeros-inside i h)
+inside : (ed : Edition) (s l w : List ℕ) → length w ≡ 4096 → (xs : List Act) (c : ℕ) → c < 4 → (i : ℕ) → i < entries
+    → InWave (waveAt (wavesIn (freshOf ed s l) (wavesReset w) xs) c i)
+inside ed s l w n xs c b i h = rw (last ed s l w n xs c b i h) (inside-in c (freshOf ed s l) (wavesReset w) xs (replicate 1024 0) zeros-inside i h)
 
 -- ---- what a tick reads
 

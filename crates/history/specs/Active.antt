@@ -5,6 +5,7 @@ use mathlib.Core.Bool.{Bool, true, false, _||_, cond}
 use mathlib.Core.List.{List, [], _∷_}
 use Prim.Native.Nat.{ℕ, _-_, _<_, min}
 use lib.Dec.{leb}
+use Rattle.sum.specs.declared.Edition.{Edition}
 use Rattle.map.specs.Addresses.{delayAt}
 use Rattle.slots.specs.declared.Holder.{Holder}
 use Rattle.slots.specs.declared.Holder.the-variants.{Level, Nobody}
@@ -13,7 +14,7 @@ use Rattle.card.specs.declared.Cause.{Cause}
 use Rattle.card.specs.Card.{State, onSome}
 use Rattle.card.specs.Active.{cause}
 use Rattle.card.specs.Tick.{advanced}
-use Rattle.card.specs.Reset.{resetOf}
+use Rattle.card.specs.Reset.{freshOf}
 use Rattle.history.specs.History.{Act, Tick, Write, Ask, HandIn, Reset, act, acts, readBack, triggerBy, Quiet, ticksIn}
 use Rattle.history.specs.Triggers.{eventBy}
 use Rattle.history.specs.Story.{Happening, Load, Sample, FreeSample, Output, Clear, Fresh, inTick, atTrigger, happens}
@@ -84,9 +85,9 @@ abbrev pub lastLoaded : State → List Act → Cause → Cause
 lastLoaded st [] old = old
 lastLoaded st (x ∷ xs) old = lastLoaded (act st x) xs (activeAfter (triggerBy st x) x (loadsAfter st x xs) old)
 
--- of a card that was reset
+-- of a fresh card
 unfoldable pub ActiveRight : Type 0
-ActiveRight = (s l : List ℕ) (xs : List Act) → activeIn (acts (resetOf s l) xs) ≡ lastLoaded (resetOf s l) xs atReset
+ActiveRight = (edition : Edition) (s l : List ℕ) (xs : List Act) → activeIn (acts (freshOf edition s l) xs) ≡ lastLoaded (freshOf edition s l) xs atReset
 
 -- ---- the last trigger
 
@@ -125,7 +126,7 @@ pub record ShownOnTime : Type 0 where
 
 -- ---- what is loaded
 
--- After any history of a card that was reset, whatever a channel loads, by counting or at a trigger, is table, scale factor, offset and tone
+-- After any history of a fresh card, whatever a channel loads, by counting or at a trigger, is table, scale factor, offset and tone
 -- for the level that 0x4210 then shows; a channel that has yet to load may hold those of an older level
 pub record LoadNamed (st : State) : Type 0 where
   pub counting : (w : List ℕ) (c : ℕ) → c < 4 → loadAmong (inTick w st c) ≡ true → inTick w st c ≡ Load (loadedFor (st .settings) c (readBack (advanced w st) 0x4210)) ∷ []
@@ -133,4 +134,4 @@ pub record LoadNamed (st : State) : Type 0 where
       → atTrigger st x c ≡ Load (loadedFor (st .settings) c (readBack (act st x) 0x4210)) ∷ []
 
 unfoldable pub LoadsNamed : Type 0
-LoadsNamed = (s l : List ℕ) (xs : List Act) → LoadNamed (acts (resetOf s l) xs)
+LoadsNamed = (edition : Edition) (s l : List ℕ) (xs : List Act) → LoadNamed (acts (freshOf edition s l) xs)

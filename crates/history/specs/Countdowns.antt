@@ -42,7 +42,7 @@ pub record RampKept (c : ℕ) (x y : State) : Type 0 where
 
 -- what one tick makes of channel c's ramp and of its value
 abbrev pub stepped : ℕ → State → Moved
-stepped c x = advance (x .tables) (firstOf c) (channelOf (x .card) c .loaded) (rampOf (channelOf (x .card) c .phase)) (channelOf (x .card) c .shown)
+stepped c x = advance (x .card .edition) (x .tables) (firstOf c) (channelOf (x .card) c .loaded) (rampOf (channelOf (x .card) c .phase)) (channelOf (x .card) c .shown)
 
 -- the ramp goes on by one tick, over the same copy, and its sample makes the signal
 pub record GoesOn (w : List ℕ) (c : ℕ) (x y : State) : Type 0 where

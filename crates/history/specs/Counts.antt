@@ -4,10 +4,11 @@ use mathlib.Core.Bool.{Bool, true, false, _||_, cond}
 use mathlib.Core.List.{List, [], _∷_}
 use Prim.Native.Nat.{ℕ, _+_, _%_, _<_}
 use lib.Dec.{eqb}
+use Rattle.sum.specs.declared.Edition.{Edition}
 use Rattle.slots.specs.declared.Holder.{Holder}
 use Rattle.slots.specs.declared.Holder.the-variants.{Level, Nobody}
 use Rattle.card.specs.Card.{State}
-use Rattle.card.specs.Reset.{resetOf}
+use Rattle.card.specs.Reset.{freshOf}
 use Rattle.history.specs.History.{Act, Tick, Write, Ask, HandIn, Reset, act, acts, readBack, wordsDone, triggerBy}
 
 -- one of the words done from address a on is done at address b
@@ -33,8 +34,8 @@ abbrev pub triggersSince : ℕ → State → List Act → ℕ → ℕ
 triggersSince level st [] n = n
 triggersSince level st (x ∷ xs) n = triggersSince level (act st x) xs (tally (triggerBy st x) (clears st level x) level n)
 
--- after any history of a card that was reset
+-- after any history of a fresh card
 unfoldable pub CountsRight : Type 0
 CountsRight =
-    (s l : List ℕ) (xs : List Act) (level : ℕ) → level < 32
-    → readBack (acts (resetOf s l) xs) (0x4220 + level) ≡ triggersSince level (resetOf s l) xs 0 % 65536
+    (edition : Edition) (s l : List ℕ) (xs : List Act) (level : ℕ) → level < 32
+    → readBack (acts (freshOf edition s l) xs) (0x4220 + level) ≡ triggersSince level (freshOf edition s l) xs 0 % 65536

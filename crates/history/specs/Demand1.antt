@@ -35,8 +35,8 @@ pub record Demand1 : Type 0 where
   pub tables : WaveTables
   -- every save
   pub saves : (st : State) (buffer : List ℕ) → SaveAnswered (st .settings) buffer (saveOf (st .settings) buffer)
-  -- every check gets its verdict
-  pub checks : (st : State) → VerdictRight (st .settings)
+  -- every check gets its verdict, with the card's own edition
+  pub checks : (st : State) → VerdictRight (st .card .edition) (st .settings)
   -- the case of 7, in the paper's words
   pub seven : (s : List ℕ) (level event : ℕ) → heldAt s (R.Slot level) event ≡ true → HeldElsewhere s level event
   pub seven-only : (s : List ℕ) (level event : ℕ) → HeldElsewhere s level event → heldAt s (R.Slot level) event ≡ true

@@ -40,7 +40,7 @@ act st (Write start count ws) = writeOf st start count ws .state
 -- a read 'has no other effect': `readOf` answers with words alone, `saveOf` with bytes alone, and `verdictOf` with a verdict
 act st (Ask what) = st
 act st (HandIn to ws) = st
-act st Reset = resetOf (st .settings) (st .tables)
+act st Reset = resetOf st
 
 abbrev pub acts : State → List Act → State
 acts st [] = st

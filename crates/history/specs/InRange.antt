@@ -39,13 +39,13 @@ sampleAmong (Output v ∷ hs) = sampleAmong hs
 sampleAmong (Clear ∷ hs) = sampleAmong hs
 sampleAmong (Fresh ∷ hs) = sampleAmong hs
 
--- in a reachable state the act x loads channel c, and the settings held then pass. A ramp loaded before, under others, is not spoken of
+-- in a reachable state the act x loads channel c, and the settings held then pass with the card's own edition. A ramp loaded before, under others, is not spoken of
 pub record PassedLoad (c : ℕ) (st : State) (x : Act) : Type 0 where
   pub sound : Sound st
   pub words : Words16 (x ∷ [])
   pub inside : c < 4
   pub loads : loadAmong (happens c st x) ≡ true
-  pub passed : verdictOf (st .settings) ≡ Passes
+  pub passed : verdictOf (st .card .edition) (st .settings) ≡ Passes
 
 -- over a tick from y to z, with the wave tables w, a sample is given whose sine's product is out of range, and A39 counts it. After any
 -- history that product is −32768 × −16384 (`onlyProduct`)

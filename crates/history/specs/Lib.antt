@@ -1,4 +1,5 @@
 pub mod History
+pub mod Editions
 pub mod Numbers
 pub mod Effects
 pub mod Counted

@@ -5,10 +5,11 @@ use mathlib.Core.List.{List, [], _∷_}
 use Prim.Native.Nat.{ℕ, _+_, _%_}
 use lib.Dec.{eqb, leb, ltb}
 use lib.ListN.{length}
+use Rattle.sum.specs.declared.Edition.{Edition}
 use Rattle.map.specs.Map.{registerOf}
 use Rattle.map.specs.Settings.{isSetting}
 use Rattle.card.specs.Card.{State}
-use Rattle.card.specs.Reset.{resetOf}
+use Rattle.card.specs.Reset.{freshOf}
 use Rattle.history.specs.History.{Act, Tick, Write, Ask, HandIn, Reset, act, acts, readBack, wordsDone}
 
 -- 'trigger slots', 'scale factors'
@@ -49,4 +50,4 @@ pub record SettingsKept : Type 0 where
   pub kept : (st : State) → length (st .settings) ≡ 16960 → (b : ℕ) → isSetting (registerOf b) ≡ true
       → (xs : List Act) → readBack (acts st xs) b ≡ lastWord b st xs (readBack st b)
   -- after a reset its reset value
-  pub fresh : (s l : List ℕ) → length s ≡ 16960 → (b : ℕ) → isSetting (registerOf b) ≡ true → readBack (resetOf s l) b ≡ resetWord b
+  pub fresh : (edition : Edition) (s l : List ℕ) → length s ≡ 16960 → (b : ℕ) → isSetting (registerOf b) ≡ true → readBack (freshOf edition s l) b ≡ resetWord b

@@ -4,6 +4,7 @@ use mathlib.Core.Bool.{true}
 use mathlib.Core.List.{List}
 use Prim.Native.Nat.{ℕ, _+_, _≤_, _<_}
 use lib.ListN.{length}
+use Rattle.sum.specs.declared.Edition.{Edition}
 use Rattle.map.specs.Register.{isMode}
 use Rattle.map.specs.Map.{registerOf, acceptedAt}
 use Rattle.map.specs.Settings.{isSetting}
@@ -25,7 +26,7 @@ use Rattle.card.specs.declared.Cause.{Cause}
 use Rattle.card.specs.declared.Card.{Card}
 use Rattle.card.specs.Card.{State, channelOf, countOf}
 use Rattle.card.specs.Tick.{tickWith, ticks}
-use Rattle.card.specs.Reset.{resetOf}
+use Rattle.card.specs.Reset.{freshOf}
 use Rattle.transfer.specs.Transfer.{writeOf}
 use Rattle.history.specs.History.{Act, acts, Each, Words16}
 
@@ -132,10 +133,10 @@ pub record Sound (st : State) : Type 0 where
   pub tables : Tables (st .tables)
   pub card : CardSound (st .card)
 
--- a reset makes it, of any lists of the card's lengths, as every call has them by type; a tick with any event, any ticks, any write and
+-- a fresh card and a reset make it, of either edition and of any lists of the card's lengths, as every call has them by type; a tick with any event, any ticks, any write and
 -- any history keep it
 pub record Reachable : Type 0 where
-  pub reset : (s l : List ℕ) → length s ≡ 16960 → length l ≡ 512 → Sound (resetOf s l)
+  pub reset : (edition : Edition) (s l : List ℕ) → length s ≡ 16960 → length l ≡ 512 → Sound (freshOf edition s l)
   pub tick : (w : List ℕ) (st : State) (event : ℕ) → Sound st → Sound (tickWith w st event)
   pub ticks : (w : List ℕ) (n : ℕ) (st : State) → Sound st → Sound (ticks w n st)
   pub write : (st : State) (start count : ℕ) (ws : List ℕ) → Each (λ v. v < 65536) ws → Sound st → Sound (writeOf st start count ws .state)

@@ -6,6 +6,7 @@ use mathlib.Core.List.{List, [], _∷_, _++_}
 use Prim.Native.Nat.{ℕ, _+_, _-_, _%_, _<_}
 use lib.Dec.{ltb, eqb}
 use lib.ListN.{length}
+use Rattle.sum.specs.declared.Edition.{Edition}
 use Rattle.sum.specs.declared.Sum.{Sum}
 use Rattle.wave.specs.Sine.{sineOf}
 use Rattle.map.specs.Map.{base}
@@ -23,7 +24,7 @@ use Rattle.channel.specs.Ramp.{place, enter, next, sampleAt, hold, isSine}
 use Rattle.channel.specs.Signal.{counterNext, counterAt, overflows}
 use Rattle.channel.specs.Channel.{word, firstOf, loadsAt, loadedFor, countdown, noTone}
 use Rattle.card.specs.Card.{State, channelOf}
-use Rattle.card.specs.Reset.{resetOf}
+use Rattle.card.specs.Reset.{freshOf}
 use Rattle.history.specs.History.{Act, Tick, Write, Ask, HandIn, Reset, act, acts, readBack, wordsDone, triggerBy, Words16}
 
 -- ---- what can happen on a channel
@@ -41,31 +42,32 @@ pub data Happening : Type 0 where
   -- a reset
   Fresh : Happening
 
--- ---- a tick with the wave tables w: what happens on channel c, which holds ch, under the settings s and the loaded tables l
+-- ---- a tick with the wave tables w: what happens on channel c of a card of an edition, which holds ch, under the settings s and the loaded
+-- tables l
 
-abbrev pub sample : List ℕ → Bool → List ℕ → ℕ → Channel → Place → List Happening
-sample w isFirst l c ch p = Sample w isFirst p (sampleAt l (firstOf c) (ch .loaded) p) ∷ []
+abbrev pub sample : Edition → List ℕ → Bool → List ℕ → ℕ → Channel → Place → List Happening
+sample edition w isFirst l c ch p = Sample w isFirst p (sampleAt edition l (firstOf c) (ch .loaded) p) ∷ []
 
 -- 'every 10 ticks': a ramp, and a free run, gives its next sample when its wait is over
-abbrev pub byRamp : List ℕ → List ℕ → ℕ → Channel → Ramp → List Happening
-byRamp w l c ch Still = []
-byRamp w l c ch (Going r) = cond (ltb 1 (r .wait .0)) [] (sample w false l c ch (next l (firstOf c) (r .place)))
-byRamp w l c ch (Free r) = cond (ltb 1 (r .wait .0)) [] (FreeSample w ∷ [])
+abbrev pub byRamp : Edition → List ℕ → List ℕ → ℕ → Channel → Ramp → List Happening
+byRamp edition w l c ch Still = []
+byRamp edition w l c ch (Going r) = cond (ltb 1 (r .wait .0)) [] (sample edition w false l c ch (next l (firstOf c) (r .place)))
+byRamp edition w l c ch (Free r) = cond (ltb 1 (r .wait .0)) [] (FreeSample w ∷ [])
 
 -- 'at countdown 0 the ramp starts if A00 is 1'
-abbrev pub byStart : List ℕ → List ℕ → List ℕ → ℕ → Channel → List Happening
-byStart w s l c ch = cond (eqb (word s (enableAt c)) 1) (sample w true l c ch (enter l (firstOf c) 0)) []
+abbrev pub byStart : Edition → List ℕ → List ℕ → List ℕ → ℕ → Channel → List Happening
+byStart edition w s l c ch = cond (eqb (word s (enableAt c)) 1) (sample edition w true l c ch (enter l (firstOf c) 0)) []
 
 -- 'a load reached by counting comes before that tick's sample, so the old ramp gives none then'
-abbrev pub inPhase : Phase → List ℕ → List ℕ → List ℕ → ℕ → Channel → List Happening
-inPhase Rest w s l c ch = []
-inPhase (Counting n older) w s l c ch =
-    cond (eqb (n .0 - 1) 0) (byStart w s l c ch) (cond (loadsAt (n .0 - 1)) (Load (loadedFor s c (ch .level)) ∷ []) (byRamp w l c ch older))
-inPhase (Running r) w s l c ch = byRamp w l c ch (Going r)
-inPhase (FreeRunning r) w s l c ch = byRamp w l c ch (Free r)
+abbrev pub inPhase : Edition → Phase → List ℕ → List ℕ → List ℕ → ℕ → Channel → List Happening
+inPhase edition Rest w s l c ch = []
+inPhase edition (Counting n older) w s l c ch =
+    cond (eqb (n .0 - 1) 0) (byStart edition w s l c ch) (cond (loadsAt (n .0 - 1)) (Load (loadedFor s c (ch .level)) ∷ []) (byRamp edition w l c ch older))
+inPhase edition (Running r) w s l c ch = byRamp edition w l c ch (Going r)
+inPhase edition (FreeRunning r) w s l c ch = byRamp edition w l c ch (Free r)
 
-abbrev pub byTick : List ℕ → List ℕ → List ℕ → ℕ → Channel → List Happening
-byTick w s l c ch = inPhase (ch .phase) w s l c ch
+abbrev pub byTick : Edition → List ℕ → List ℕ → List ℕ → ℕ → Channel → List Happening
+byTick edition w s l c ch = inPhase edition (ch .phase) w s l c ch
 
 -- ---- an act
 
@@ -84,7 +86,7 @@ byWords c a (v ∷ vs) = byWord c a v ++ byWords c (a + 1) vs
 
 -- as a tick advances the channel, and at an act's trigger
 abbrev pub inTick : List ℕ → State → ℕ → List Happening
-inTick w st c = byTick w (st .settings) (st .tables) c (channelOf (st .card) c)
+inTick w st c = byTick (st .card .edition) w (st .settings) (st .tables) c (channelOf (st .card) c)
 
 abbrev pub atTrigger : State → Act → ℕ → List Happening
 atTrigger st x c = byTrigger (triggerBy st x) (st .settings) c
@@ -177,12 +179,12 @@ pub record Shows (c : ℕ) (st : State) (x : Told) : Type 0 where
   pub amplitude : channelOf (st .card) c .shown .amplitude ≡ x .amplitude
   pub counter : channelOf (st .card) c .signal .counter ≡ x .counter
 
--- after any history of a card that was reset; that it has 16,960 settings and 512 loaded words, of 16 bits each, is so by type
+-- after any history of a fresh card; that it has 16,960 settings and 512 loaded words, of 16 bits each, is so by type
 unfoldable pub ChannelsRight : Type 0
 ChannelsRight =
-    (s l : List ℕ) → length s ≡ 16960 → length l ≡ 512 → (xs : List Act) → Words16 xs → (c : ℕ) → c < 4
-    → Shows c (acts (resetOf s l) xs) (told c fresh (story c (resetOf s l) xs))
+    (edition : Edition) (s l : List ℕ) → length s ≡ 16960 → length l ≡ 512 → (xs : List Act) → Words16 xs → (c : ℕ) → c < 4
+    → Shows c (acts (freshOf edition s l) xs) (told c fresh (story c (freshOf edition s l) xs))
 
 -- after a reset: 'no countdown, no ramp'
 unfoldable pub AtRest : Type 0
-AtRest = (s l : List ℕ) (c : ℕ) → c < 4 → channelOf (resetOf s l .card) c .phase ≡ Rest
+AtRest = (edition : Edition) (s l : List ℕ) (c : ℕ) → c < 4 → channelOf (freshOf edition s l .card) c .phase ≡ Rest

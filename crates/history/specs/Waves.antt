@@ -7,12 +7,13 @@ use Prim.Native.Nat.{ℕ, suc, _+_, _≤_, _<_}
 use lib.Dec.{eqb}
 use lib.ListN.{length, getD, replicate}
 use Rattle.word.specs.Word.{signedOf}
+use Rattle.sum.specs.declared.Edition.{Edition}
 use Rattle.wave.specs.Sine.{entries, waveOf, waveAt}
 use Rattle.wave.specs.Laws.{InWave}
 use Rattle.channel.specs.Channel.{runsOf}
 use Rattle.card.specs.declared.Card.{Card}
 use Rattle.card.specs.Card.{State, channelOf}
-use Rattle.card.specs.Reset.{wavesReset, resetOf}
+use Rattle.card.specs.Reset.{wavesReset, freshOf}
 use Rattle.wavetable.specs.declared.Reply.{Reply}
 use Rattle.wavetable.specs.declared.Reply.the-variants.{Taken, Bad, Running}
 use Rattle.wavetable.specs.Hand.{Handed, badTable, handOf, replyNumber}
@@ -89,12 +90,12 @@ RunsThrough c st (x ∷ xs) = (isReset x ≡ false) × (runsOf (channelOf (st .c
 
 -- of 4,096 words, as every call has them by type
 pub record WavesRight : Type 0 where
-  -- after any history of a card that was reset a channel's wave table is the last one taken, zeros where there is none
-  pub last : (s l w : List ℕ) → length w ≡ 4096 → (xs : List Act) (c : ℕ) → c < 4 → (i : ℕ) → i < entries
-      → getD (wavesIn (resetOf s l) (wavesReset w) xs) (waveOf c + i) 0 ≡ getD (lastTable c (resetOf s l) (wavesReset w) xs (replicate entries 0)) i 0
+  -- after any history of a fresh card a channel's wave table is the last one taken, zeros where there is none
+  pub last : (edition : Edition) (s l w : List ℕ) → length w ≡ 4096 → (xs : List Act) (c : ℕ) → c < 4 → (i : ℕ) → i < entries
+      → getD (wavesIn (freshOf edition s l) (wavesReset w) xs) (waveOf c + i) 0 ≡ getD (lastTable c (freshOf edition s l) (wavesReset w) xs (replicate entries 0)) i 0
   -- and all its words are in range
-  pub inside : (s l w : List ℕ) → length w ≡ 4096 → (xs : List Act) (c : ℕ) → c < 4 → (i : ℕ) → i < entries
-      → InWave (waveAt (wavesIn (resetOf s l) (wavesReset w) xs) c i)
+  pub inside : (edition : Edition) (s l w : List ℕ) → length w ≡ 4096 → (xs : List Act) (c : ℕ) → c < 4 → (i : ℕ) → i < entries
+      → InWave (waveAt (wavesIn (freshOf edition s l) (wavesReset w) xs) c i)
   -- where every tick is lent them as they were left, tick n + 1 reads what the acts before it left
   pub read : (st : State) (w z : List ℕ) (xs : List Act) → LentAsLeft st w xs → (n : ℕ) → n < ticksIn xs → wavesOn z (suc n) xs ≡ wavesIn st w (until (suc n) xs)
   -- no ramp that runs or free-runs sees its wave table change
