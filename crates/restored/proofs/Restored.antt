@@ -9,6 +9,8 @@ use native.Mathlib.Omega.{arith}
 use lib.Dec.{eqb}
 use lib.ListN.{length}
 use borrow.Author.Tests.{eqb-true, eqb-false}
+use Rattle.sum.specs.declared.Edition.{Edition}
+use Rattle.sum.specs.declared.Edition.the-variants.{First}
 use Rattle.map.specs.Map.{registerOf}
 use Rattle.map.specs.Settings.{isSetting, isFixed}
 use Rattle.channel.specs.Channel.{word}
@@ -23,7 +25,7 @@ use Rattle.saved.proofs.Covered.{is-inside, inside-is, saved-are, all-good}
 use Rattle.history.specs.Sound.{Words, Sound}
 use Rattle.history.proofs.Settings.{setting-reads}
 use Rattle.history.proofs.Words.{reset-word, reset-length, reset-words}
-use Rattle.restored.specs.Restored.{answeredAll, SameSettings, SameSaved, fedTo, Restored, EqualLines}
+use Rattle.restored.specs.Restored.{answeredAll, SameSettings, SameSaved, fedTo, answersTo, Restored, EqualLines}
 use Rattle.restored.proofs.Fixed.{fixed-same}
 use Rattle.restored.proofs.Lines.{lines-are, words-are}
 use Rattle.restored.proofs.Played.{Partly, below, laid, laid-kept, laid-new, all-played}
@@ -117,14 +119,14 @@ reset-partly s t l =
       slots = λ n h. inr (reset-word (λ y. y ≡ 0xFE) s (0x4000 + n) l (λ f g. refl) (λ c i j. absurd (omega arith)) (λ o i. absurd (o (omega arith) (omega arith))));
     }
 
-module _ (st : State) (v : Sound st) (s l w : List ℕ) (h : length s ≡ 16960) where
+module _ (ed : Edition) (st : State) (v : Sound st) (s l w : List ℕ) (h : length s ≡ 16960) where
   -- the settings that they leave
   left : List ℕ
   left = laid (st .settings) (settingsReset s) frames
 
-  played : (fedTo s l w (savedText (st .settings)) ≡ state cardReset left (tablesReset l)) × (session s l w (savedText (st .settings)) ≡ answeredAll frames)
-  unfolding session left
-  played = rw (lines-are .each (st .settings)) (all-played (st .settings) (v .settings) cardReset (tablesReset l) (wavesReset w) (settingsReset s) frames (reset-partly s (st .settings) h) all-good)
+  played : (fedTo ed s l w (savedText (st .settings)) ≡ state (cardReset ed) left (tablesReset l)) × (answersTo ed s l w (savedText (st .settings)) ≡ answeredAll frames)
+  unfolding left
+  played = rw (lines-are .each (st .settings)) (all-played (st .settings) (v .settings) (cardReset ed) (tablesReset l) (wavesReset w) (settingsReset s) frames (reset-partly s (st .settings) h) all-good)
 
   left-same : (a : ℕ) → isSetting (registerOf a) ≡ true → word left a ≡ word (st .settings) a
   unfolding left
@@ -133,15 +135,17 @@ module _ (st : State) (v : Sound st) (s l w : List ℕ) (h : length s ≡ 16960)
       (λ f. laid-kept (st .settings) (settingsReset s) frames a (fixed-same (settingsReset s) (st .settings) (reset-words s h) (v .settings) a f))
       (laid-new (st .settings) (settingsReset s) frames a (reset-partly s (st .settings) h) (below a e))
 
-  fed-same : SameSettings (fedTo s l w (savedText (st .settings))) st
-  fed-same = rw (played .0) (same-words (state cardReset left (tablesReset l)) st left-same)
+  fed-same : SameSettings (fedTo ed s l w (savedText (st .settings))) st
+  fed-same = rw (played .0) (same-words (state (cardReset ed) left (tablesReset l)) st left-same)
 
 -- SAVED LINES, FED TO A RESET CARD, ARE ALL ANSWERED 0 AND LEAVE THE SAME SETTINGS
 pub restored : Restored
+unfolding session
 restored =
     record {
-      answered = λ st v s l w h. played st v s l w h .1;
+      answered = λ ed st v s l w h. played ed st v s l w h .1;
+      session = λ st v s l w h. played First st v s l w h .1;
       settings = fed-same;
-      rest = λ st v s l w h. let e = played st v s l w h .0 in (ap (λ (x : State). x .card) e, ap (λ (x : State). x .tables) e);
-      again = λ st v s l w h. settings-lines (fedTo s l w (savedText (st .settings))) st (λ a e. fed-same st v s l w h a (saved-setting a e));
+      rest = λ ed st v s l w h. let e = played ed st v s l w h .0 in (ap (λ (x : State). x .card) e, ap (λ (x : State). x .tables) e);
+      again = λ ed st v s l w h. settings-lines (fedTo ed s l w (savedText (st .settings))) st (λ a e. fed-same ed st v s l w h a (saved-setting a e));
     }

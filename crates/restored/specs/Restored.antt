@@ -5,12 +5,13 @@ use mathlib.Core.Bool.{true}
 use mathlib.Core.List.{List, [], _∷_, _++_, map}
 use Prim.Native.Nat.{ℕ}
 use lib.ListN.{length}
+use Rattle.sum.specs.declared.Edition.{Edition}
 use Rattle.map.specs.Map.{registerOf}
 use Rattle.map.specs.Settings.{isSetting}
 use Rattle.card.specs.Card.{State}
-use Rattle.card.specs.Reset.{wavesReset, resetOf}
+use Rattle.card.specs.Reset.{wavesReset, freshOf}
 use Rattle.line.specs.Answer.{headOf}
-use Rattle.line.specs.Session.{linesOf, playedOf, session}
+use Rattle.line.specs.Session.{linesOf, answersOf, playedOf, session}
 use Rattle.saved.specs.declared.Span.{Span}
 use Rattle.saved.specs.Saved.{frames, frameText, savedText}
 use Rattle.saved.specs.Laws.{within}
@@ -28,25 +29,31 @@ answeredAll (x ∷ xs) = (headOf 0x81 0 (x .count) ++ 10 ∷ []) ++ answeredAll 
 abbrev pub SameSettings : State → State → Type 0
 SameSettings x y = (a : ℕ) → isSetting (registerOf a) ≡ true → readBack x a ≡ readBack y a
 
--- a card that was reset, whatever the lent words were, and that a text was then fed to
-abbrev pub fedTo : List ℕ → List ℕ → List ℕ → List ℕ → State
-fedTo s l w text = playedOf (wavesReset w) (resetOf s l) (linesOf text)
+-- a fresh card of an edition, whatever the lent words were, that a text was then fed to, and what it answered
+abbrev pub fedTo : Edition → List ℕ → List ℕ → List ℕ → List ℕ → State
+fedTo edition s l w text = playedOf (wavesReset w) (freshOf edition s l) (linesOf text)
+
+abbrev pub answersTo : Edition → List ℕ → List ℕ → List ℕ → List ℕ → List ℕ
+answersTo edition s l w text = answersOf (wavesReset w) (freshOf edition s l) (linesOf text)
 
 -- the lines of the text, whatever the settings are: one for each frame, 173 in all
 pub record LinesAre : Type 0 where
   pub each : (s : List ℕ) → linesOf (savedText s) ≡ map (frameText s) frames
   pub many : (s : List ℕ) → length (linesOf (savedText s)) ≡ 173
 
--- of any reachable card, and a reset card whose settings have the 16,960 words that every call has by type
+-- of any reachable card, and a fresh card of either edition whose settings have the 16,960 words that every call has by type
 pub record Restored : Type 0 where
-  pub answered : (st : State) → Sound st → (s l w : List ℕ) → length s ≡ 16960 → session s l w (savedText (st .settings)) ≡ answeredAll frames
-  pub settings : (st : State) → Sound st → (s l w : List ℕ) → length s ≡ 16960 → SameSettings (fedTo s l w (savedText (st .settings))) st
-  -- and nothing else of the reset card changes
-  pub rest : (st : State) → Sound st → (s l w : List ℕ) → length s ≡ 16960
-      → (fedTo s l w (savedText (st .settings)) .card ≡ resetOf s l .card) × (fedTo s l w (savedText (st .settings)) .tables ≡ resetOf s l .tables)
+  pub answered : (edition : Edition) (st : State) → Sound st → (s l w : List ℕ) → length s ≡ 16960
+      → answersTo edition s l w (savedText (st .settings)) ≡ answeredAll frames
+  -- the line program's session among them
+  pub session : (st : State) → Sound st → (s l w : List ℕ) → length s ≡ 16960 → session s l w (savedText (st .settings)) ≡ answeredAll frames
+  pub settings : (edition : Edition) (st : State) → Sound st → (s l w : List ℕ) → length s ≡ 16960 → SameSettings (fedTo edition s l w (savedText (st .settings))) st
+  -- and nothing else of the fresh card changes
+  pub rest : (edition : Edition) (st : State) → Sound st → (s l w : List ℕ) → length s ≡ 16960
+      → (fedTo edition s l w (savedText (st .settings)) .card ≡ freshOf edition s l .card) × (fedTo edition s l w (savedText (st .settings)) .tables ≡ freshOf edition s l .tables)
   -- so saving what was fed gives the same lines again
-  pub again : (st : State) → Sound st → (s l w : List ℕ) → length s ≡ 16960
-      → savedText (fedTo s l w (savedText (st .settings)) .settings) ≡ savedText (st .settings)
+  pub again : (edition : Edition) (st : State) → Sound st → (s l w : List ℕ) → length s ≡ 16960
+      → savedText (fedTo edition s l w (savedText (st .settings)) .settings) ≡ savedText (st .settings)
 
 -- ---- two cards
 
