@@ -1,4 +1,5 @@
-// The bench program: the line program's frames and one frame for every further call, from standard input to standard output, on a reset card.
+// The bench program: the line program's frames and one frame for every further call, from standard input to standard output. It starts on a
+// fresh card of edition 1.
 use card::Card;
 use libc::STDERR_FILENO;
 use libc::STDIN_FILENO;
@@ -8,6 +9,7 @@ use panel::Plot;
 use panel::Plotted;
 use panel::Reading;
 use profile::Verdict;
+use sum::Edition;
 use transfer::Answer;
 ghost use Prim.Native.Nat.{_+_, _≤_, _<_};
 ghost use lib.ListN.{length};
@@ -47,7 +49,7 @@ fn serve(
     chunk: &mut [u8; 65536],
     out: &mut [u8; 65536],
 ) {
-    let mut k = card::reset(settings, tables, waves);
+    let mut k = line::start(settings, tables, waves);
     let mut held: usize = 0;
     let mut failed: u32 = 0;
     let mut turns = u64::MAX;
@@ -234,6 +236,7 @@ fn answer(
         0x12 => read_slice(settings, card, line, out),
         0x15 => save(settings, card, line, out),
         0x16 => check(settings, card, line, out),
+        0x17 => fresh(settings, tables, waves, card, line, out),
         0x18 => reset(settings, tables, waves, card, line, out),
         0x1B => plot(settings, card, line, out),
         0x1C => show(card, line, out),
@@ -437,7 +440,45 @@ fn check(settings: &[u16; 16960], card: Card, line: &[u8], out: &mut [u8]) -> An
     }
 }
 
-// 18: a reset.
+// 17, edition, 01 or 02: a fresh card of that edition.
+fn fresh(
+    settings: &mut [u16; 16960],
+    tables: &mut [u16; 512],
+    waves: &mut [u16; 4096],
+    card: Card,
+    line: &[u8],
+    out: &mut [u8],
+) -> Answered
+    ensures { λ r. ⌜ r .end ≤ 16393 ⌝ }
+{
+    if line.len() != 4 {
+        return bad(card, out);
+    }
+    match digits::byte_at(line, 2) {
+        1 => fresh_card(settings, tables, waves, Edition::First, out),
+        2 => fresh_card(settings, tables, waves, Edition::Second, out),
+        _ => bad(card, out),
+    }
+}
+
+// The fresh card itself, and 97.
+fn fresh_card(
+    settings: &mut [u16; 16960],
+    tables: &mut [u16; 512],
+    waves: &mut [u16; 4096],
+    edition: Edition,
+    out: &mut [u8],
+) -> Answered
+    ensures { λ r. ⌜ r .end ≤ 16393 ⌝ }
+{
+    digits::put2(out, 0, 0x97);
+    Answered {
+        card: card::fresh(settings, tables, waves, edition),
+        end: 2,
+    }
+}
+
+// 18: a reset, which keeps the edition.
 fn reset(
     settings: &mut [u16; 16960],
     tables: &mut [u16; 512],
@@ -453,7 +494,7 @@ fn reset(
     }
     digits::put2(out, 0, 0x98);
     Answered {
-        card: card::reset(settings, tables, waves),
+        card: card::reset(settings, tables, waves, card),
         end: 2,
     }
 }

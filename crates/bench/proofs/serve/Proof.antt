@@ -11,8 +11,8 @@ Inv-loop settings₀ tables₀ waves₀ line₀ chunk₀ out₀ k₀ held₀ fai
 abbrev μ-loop : tie.MeasureT-loop
 μ-loop settings₀ tables₀ waves₀ line₀ chunk₀ out₀ k₀ held₀ failed₀ turns₀ t12 settings tables waves line chunk out k held failed turns = turns
 
-reset-requires : tie.Need-reset-requires Inv-loop μ-loop
-reset-requires c κs = search needs
+start-requires : tie.Need-start-requires Inv-loop μ-loop
+start-requires c κs = search needs
 
 loop-holds : tie.Need-loop-holds Inv-loop μ-loop
 loop-holds c = search needs
@@ -33,7 +33,7 @@ loop-less : tie.Need-loop-less Inv-loop μ-loop
 loop-less c = search needs
 
 loop-again : tie.Need-loop-again Inv-loop μ-loop
-loop-again c = search needs
+loop-again c = c .before .before .before .before .before .before .before .before .before .before .before .before .before .before .before .loop .inv
 
 add-failed : tie.Need-add-failed Inv-loop μ-loop
 add-failed c = search needs
@@ -62,7 +62,7 @@ serve-spec =
     (tie.spec
     Inv-loop
     μ-loop
-    reset-requires
+    start-requires
     loop-holds
     sub-turns
     read-requires
