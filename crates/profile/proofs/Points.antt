@@ -241,7 +241,7 @@ module _ (ed : Edition) (s : List ℕ) (c level : ℕ) where
       rw (each-in (sums s start ed ld) (total s start + 1) (λ k h. points-in s start ed ld (λ n g. d n (omega arith) g) k (omega arith)))
 
   -- POINTS UP TO THE RAMP'S END DECIDE
-  by-points : levelVerdict ed s c level ≡ told c level (ld .table) (outFrom s start ld 64 0)
+  pub by-points : levelVerdict ed s c level ≡ told c level (ld .table) (outFrom s start ld 64 0)
   by-points = found-told _ (walk s start ld 63 0 (omega arith) (omega arith))
 
   -- of a call: what the maps give is read, and its points are walked over

@@ -1,6 +1,6 @@
 -- The verdict is the request's (`verdict-right`): it passes exactly where every sample of every ramp is in range, and names the first channel,
 -- then level, where one is not. So of demand 3's samples none is held (`nothing-held`). Assumes nothing.
-use mathlib.Core.Path.{_≡_, refl, sym, subst}
+use mathlib.Core.Path.{_≡_, refl, sym, ap, fun-ext, _∙_, subst}
 use mathlib.Core.Bool.{Bool, true, false, cond}
 use mathlib.Core.List.{List}
 use Prim.Native.Nat.{ℕ, zero, suc, _+_, _<_}
@@ -12,11 +12,12 @@ use Rattle.channel.specs.Ramp.{hold}
 use Rattle.channel.specs.Signal.{overflows}
 use Rattle.course.specs.Follows.{tableFor, totalFor, sumFor}
 use Rattle.profile.specs.declared.Break.{Break}
+use Rattle.profile.specs.declared.Verdict.{Verdict}
 use Rattle.profile.specs.declared.Verdict.the-variants.{Passes, Breaks}
-use Rattle.profile.specs.Profile.{keeps, breakOf, levelVerdict, channelVerdict, verdictOf}
-use Rattle.profile.specs.Laws.{InRange, AllInRange, FirstBreak, VerdictRight, NothingHeld}
+use Rattle.profile.specs.Profile.{keeps, breakOf, firstFrom, levelVerdict, channelVerdict, verdictOf}
+use Rattle.profile.specs.Laws.{InRange, AllInRange, FirstBreak, VerdictRight, OneVerdict, NothingHeld}
 use Rattle.profile.proofs.Search.{each-in, in-each, Named, all-pass, each-passes, first-named}
-use Rattle.profile.proofs.Points.{broken, steps-most}
+use Rattle.profile.proofs.Points.{by-points, broken, steps-most}
 
 module _ (ed : Edition) (s : List ℕ) where
   -- ---- one ramp
@@ -73,6 +74,20 @@ module _ (ed : Edition) (s : List ℕ) where
   -- THE VERDICT IS THE REQUEST'S
   pub verdict-right : VerdictRight ed s
   verdict-right = record { passes = all-in; passes-only = in-all; breaks = first-break }
+
+-- ---- one verdict for both editions
+
+level-same : (ed ed′ : Edition) (s : List ℕ) (c level : ℕ) → levelVerdict ed s c level ≡ levelVerdict ed′ s c level
+level-same ed ed′ s c level = by-points ed s c level ∙ sym (by-points ed′ s c level)
+
+channel-same : (ed ed′ : Edition) (s : List ℕ) (c : ℕ) → channelVerdict ed s c ≡ channelVerdict ed′ s c
+unfolding channelVerdict
+channel-same ed ed′ s c = ap (λ (f : ℕ → Verdict). firstFrom f 0 32) (fun-ext (λ level. level-same ed ed′ s c level))
+
+-- POINTS DECIDE, AND THERE THE EDITIONS AGREE
+pub one-verdict : OneVerdict
+unfolding OneVerdict verdictOf
+one-verdict ed ed′ s = ap (λ (f : ℕ → Verdict). firstFrom f 0 4) (fun-ext (λ c. channel-same ed ed′ s c))
 
 -- ---- nothing is held
 

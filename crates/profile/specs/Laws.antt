@@ -37,11 +37,15 @@ pub record FirstBreak (edition : Edition) (s : List ℕ) (b : Break) : Type 0 wh
   pub out : overflows (pointSum edition s (b .channel) (b .level) (b .point)) ≡ true
   pub points : (n : ℕ) → n < b .point → overflows (pointSum edition s (b .channel) (b .level) n) ≡ false
 
--- of any settings
+-- of any settings, in an edition
 pub record VerdictRight (edition : Edition) (s : List ℕ) : Type 0 where
   pub passes : verdictOf edition s ≡ Passes → AllInRange edition s
   pub passes-only : AllInRange edition s → verdictOf edition s ≡ Passes
   pub breaks : (b : Break) → verdictOf edition s ≡ Breaks b → FirstBreak edition s b
+
+-- Document 02, Six: 'Five holds in both', and with one verdict
+unfoldable pub OneVerdict : Type 0
+OneVerdict = (edition other : Edition) (s : List ℕ) → verdictOf edition s ≡ verdictOf other s
 
 -- so of demand 3's 'rounded sum .. or, where that overflows, the output held just before' the second never comes: after sample k the amplitude,
 -- and in plain mode the output, is that sample's own sum, whatever stood there before the start

@@ -3,9 +3,10 @@ use mathlib.Core.Path.{_≡_}
 use Prim.Native.Nat.{ℕ, suc, _*_, _<_}
 use lib.IntN.{ℤ, pos, negsuc, negℤ, _+ℤ_, _-ℤ_, _*ℤ_}
 use lib.Signed.{_≤ℤ_}
+use Rattle.word.specs.Word.{signedOf}
 use Rattle.sum.specs.Floor.{floor, ceil}
-use Rattle.sum.specs.Fraction.{Fraction}
-use Rattle.sum.specs.Sample.{sumOf, totalOf}
+use Rattle.sum.specs.Fraction.{Fraction, fraction}
+use Rattle.sum.specs.Sample.{sumOf, settled, totalOf, sampleOf}
 use Rattle.sum.specs.declared.Edition.{Edition}
 use Rattle.sum.specs.declared.Edition.the-variants.{First, Second}
 
@@ -13,6 +14,14 @@ use Rattle.sum.specs.declared.Edition.the-variants.{First, Second}
 pub record Rounded (S : ℤ) (f : Fraction) (offset : ℤ) : Type 0 where
   pub once : sumOf First S f offset ≡ floor (S *ℤ f .num) (256 * f .den) +ℤ offset
   pub twice : sumOf Second S f offset ≡ floor (S *ℤ floor (f .num) (f .den)) 256 +ℤ offset
+
+-- 'Edition 1 must stay for the old benches': a sum of words and its sample in edition 1 are document 01's. Above them every definition hands the
+-- edition on, and none looks at it
+pub record AsBefore (scale from to step left offset : ℕ) : Type 0 where
+  pub total : let f : Fraction = fraction (signedOf from) (signedOf to) step left in
+      totalOf First scale from to step left offset ≡ floor (signedOf scale *ℤ f .num) (256 * f .den) +ℤ signedOf offset
+  pub sample : let f : Fraction = fraction (signedOf from) (signedOf to) step left in
+      sampleOf First scale from to step left offset ≡ settled (floor (signedOf scale *ℤ f .num) (256 * f .den) +ℤ signedOf offset)
 
 -- 'edition 1 minus edition 2'
 abbrev pub minus : ℤ → Fraction → ℤ → ℤ
