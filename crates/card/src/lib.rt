@@ -22,14 +22,14 @@ pub struct Cause {
     pub event: u16,
 }
 
-// 0x4210 and 0x4211 show the active cause. The pending one is the last trigger's; a load makes it the active one. The edition, which no
-// address shows, is chosen with the fresh card and never changes.
+// The edition, which no address shows, is chosen with the fresh card and never changes. 0x4210 and 0x4211 show the active cause. The pending
+// one is the last trigger's; a load makes it the active one.
 pub struct Card {
+    pub edition: Edition,
     pub channels: [Channel; 4],
     pub counts: [u16; 32],
     pub active: Cause,
     pub pending: Cause,
-    pub edition: Edition,
 }
 
 // A fresh card of an edition: settings, loaded tables, wave tables and card as after a reset.
