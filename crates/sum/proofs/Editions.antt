@@ -1,18 +1,17 @@
 -- The two roundings: where they agree, and how far apart they are. f lies between its own cut q and q + 1, and the sum goes one way with f,
 -- so the bound is that of one step from q to q + 1. Assumes nothing.
 use mathlib.Core.Path.{_≡_, refl, sym, ap, _∙_}
-use Prim.Native.Nat.{ℕ, zero, suc, _+_, _*_, _<_}
-use native.Mathlib.Nat.{mul-one}
+use Prim.Native.Nat.{ℕ, zero, suc, _*_, _<_}
 use native.Mathlib.Omega.{arith}
 use lib.Dec.{eqb·suc-zero}
 use lib.IntN.{ℤ, pos, negsuc, _+ℤ_, _-ℤ_, _*ℤ_}
 use lib.Signed.{_≤ℤ_}
 use Rattle.word.specs.Word.{signedOf}
-use Rattle.word.proofs.Split.{up, dn, of-add, of-minus, of-mul, up-neg, dn-neg, le-split, le-join, eq-join}
+use Rattle.word.proofs.Split.{of-add, of-minus, of-mul, up-neg, dn-neg, le-split, le-join, eq-join}
 use Rattle.sum.specs.Floor.{floor, ceil}
 use Rattle.sum.specs.Fraction.{Fraction, whole, along, fraction, Order}
-use Rattle.sum.specs.Sample.{onceOf, sumOf, totalOf}
-use Rattle.sum.specs.Editions.{AsBefore, minus, Near, TwoRoundings}
+use Rattle.sum.specs.Sample.{onceOf, sumOf}
+use Rattle.sum.specs.Editions.{AsBefore, Near, TwoRoundings}
 use Rattle.sum.specs.declared.Edition.{Edition}
 use Rattle.sum.specs.declared.Edition.the-variants.{First, Second}
 use Rattle.sum.proofs.Floors.{of-floor, floor-one, floor-cancel, ceil-is}
@@ -77,37 +76,46 @@ module _ (f : Fraction) (h : 0 < f .den) where
         order = le-join _ _ (omega (arith, of-floor (f .num) (f .den) h, of-mul (q +ℤ pos 1) (pos (f .den)), of-mul (f .num) (pos 1), ap (λ (k : ℕ). k * f .den) (of-add q (pos 1))));
       }
 
-  near-by : (S o : ℤ) → Near S (minus S f o)
+  near-by : (S o : ℤ) → Near S (sumOf First S f o -ℤ sumOf Second S f o)
   near-by (pos s) o =
       let A = onceOf (pos s) f o in
       let B = onceOf (pos s) (whole q) o in
       let C = onceOf (pos s) (whole (q +ℤ pos 1)) o in
-      let up-to : floor (pos s *ℤ (q +ℤ pos 1)) 256 ≤ℤ (floor (pos s *ℤ q) 256 +ℤ pos (ceil s 256)) = rw (next-up s q) (step-up (pos s *ℤ q) s) in
+      let x = floor (pos s *ℤ q) 256 in
+      let y = floor (pos s *ℤ (q +ℤ pos 1)) 256 in
+      let up-to : y ≤ℤ (x +ℤ pos (ceil s 256)) = rw (next-up s q) (step-up (pos s *ℤ q) s) in
       let low = le-split B A (rises-once s o (whole q) f (omega arith) h below) in
       let high = le-split A C (rises-once s o f (whole (q +ℤ pos 1)) h (omega arith) above) in (
         le-join (pos 0) (A -ℤ B) (omega (arith, of-minus A B, low)),
-        le-join (A -ℤ B) (pos (ceil s 256)) (omega (arith, of-minus A B, high, of-add (floor (pos s *ℤ (q +ℤ pos 1)) 256) o, of-add (floor (pos s *ℤ q) 256) o, le-split _ _ up-to, of-add (floor (pos s *ℤ q) 256) (pos (ceil s 256)))),
+        le-join (A -ℤ B) (pos (ceil s 256)) (omega (arith, of-minus A B, high, of-add y o, of-add x o, le-split _ _ up-to, of-add x (pos (ceil s 256)))),
       )
   near-by (negsuc s) o =
       let A = onceOf (negsuc s) f o in
       let B = onceOf (negsuc s) (whole q) o in
       let C = onceOf (negsuc s) (whole (q +ℤ pos 1)) o in
-      let down-to : (floor (negsuc s *ℤ q) 256 -ℤ pos (ceil (suc s) 256)) ≤ℤ floor (negsuc s *ℤ (q +ℤ pos 1)) 256 = rw (next-down s q) (step-down (negsuc s *ℤ q) (suc s)) in
+      let x = floor (negsuc s *ℤ q) 256 in
+      let y = floor (negsuc s *ℤ (q +ℤ pos 1)) 256 in
+      let b = pos (ceil (suc s) 256) in
+      let down-to : (x -ℤ b) ≤ℤ y = rw (next-down s q) (step-down (negsuc s *ℤ q) (suc s)) in
       let high = le-split A B (falls-once s o (whole q) f (omega arith) h below) in
       let low = le-split C A (falls-once s o f (whole (q +ℤ pos 1)) h (omega arith) above) in (
-        le-join _ (A -ℤ B) (omega (arith, of-minus A B, low, of-add (floor (negsuc s *ℤ (q +ℤ pos 1)) 256) o, of-add (floor (negsuc s *ℤ q) 256) o, le-split _ _ down-to, of-minus (floor (negsuc s *ℤ q) 256) (pos (ceil (suc s) 256)), up-neg (pos (ceil (suc s) 256)), dn-neg (pos (ceil (suc s) 256)))),
+        le-join _ (A -ℤ B) (omega (arith, of-minus A B, low, of-add y o, of-add x o, le-split _ _ down-to, of-minus x b, up-neg b, dn-neg b)),
         le-join (A -ℤ B) (pos 0) (omega (arith, of-minus A B, high)),
       )
+
+near-at : (S o a b : ℤ) (step left : ℕ) → Near S (sumOf First S (fraction a b step left) o -ℤ sumOf Second S (fraction a b step left) o)
+near-at S o a b zero left = near-by (whole a) (omega arith) S o
+near-at S o a b (suc k) left = rw (eqb·suc-zero k) (near-by (along a b (suc k) left) (omega arith) S o)
 
 -- WHERE THE EDITIONS AGREE, AND HOW FAR APART THEY ARE
 pub two-roundings : TwoRoundings
 unfolding signedOf
 two-roundings =
     record {
-      rounded = λ S f o. record { once = refl; twice = refl };
+      twice = λ S f o. refl;
       points = λ scale from to step offset. agree-at First Second (signedOf scale) (signedOf offset) (signedOf from) (signedOf to) step;
       one = λ from to step left offset. agree-one (signedOf from) (signedOf to) (signedOf offset) step left;
-      near = λ S f o h. near-by f h S o;
+      near = λ scale from to step left offset. near-at (signedOf scale) (signedOf offset) (signedOf from) (signedOf to) step left;
     }
 
 -- IN EDITION 1 EACH DEFINITION IS WHAT IT WAS

@@ -51,6 +51,15 @@ floor-one (negsuc a) = ap negsuc (omega arith)
 pub ceil-is : (n d : ℕ) → 0 < d → IsCeil n d (ceil n d)
 ceil-is n d h = record { enough = omega (arith, div-add-mod' (n + (d - 1)) d, mod-lt (n + (d - 1)) h); least = omega (arith, div-add-mod' (n + (d - 1)) d, mod-lt (n + (d - 1)) h) }
 
+pub ceil-unique : (n d q : ℕ) → 0 < d → IsCeil n d q → q ≡ ceil n d
+ceil-unique n d q h c =
+    let r = ceil-is n d h in
+    omega (
+      arith,
+      lt-of-mul-lt-mul-right d {m = q} {n = ceil n d + 1} (omega (arith, c .least, r .enough)),
+      lt-of-mul-lt-mul-right d {m = ceil n d} {n = q + 1} (omega (arith, c .enough, r .least)),
+    )
+
 pub size-floor : (x : ℤ) (d : ℕ) {m : ℕ} → natAbs x ≤ m → natAbs (floor x d) ≤ m
 size-floor (pos a) d h = le-trans (div-le-self a d) h
 size-floor (negsuc a) d h = omega (arith, div-le-self a d)

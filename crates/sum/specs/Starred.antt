@@ -1,4 +1,4 @@
--- 'Checked examples': the starred cases of samples, one row each.
+-- 'Checked examples': the starred cases of samples, one row each; and the cases of document 02, Six.
 use mathlib.Core.List.{List, [], _∷_}
 use Prim.Native.Nat.{ℕ, _-_}
 use Rattle.sum.specs.Ramp.{Point, ramp, rampSteps}
@@ -45,7 +45,7 @@ starredSamples =
 abbrev pub samplesGiven : Case → Case
 samplesGiven c = case (c .scale) (c .offset) (c .points) (ramp First (c .scale) (c .offset) (c .points)) (rampSteps (c .points))
 
--- Document 02, Six: a ramp's scale word and points, and its samples in edition 1 and in edition 2
+-- Six: a ramp's scale word and points, and its samples in edition 1 and in edition 2
 pub record TwoCase : Type 0 where
   pub scale : ℕ
   pub points : List Point

@@ -1,7 +1,7 @@
 -- `sum::rounded` meets its contract, by the edition. Assumes nothing.
 use borrow.Author.Needs.{needs}
 use mathlib.Core.Path.{_≡_, sym, ap, _∙_}
-use Prim.Native.Nat.{ℕ, _≤_, _^_}
+use Prim.Native.Nat.{_≤_, _^_}
 use lib.Dec.{lit≤}
 use lib.IntN.{ℤ, natAbs}
 use mir.Syntax.{w64}
