@@ -28,6 +28,13 @@ impl Edition {
     }
 }
 
+/// "The scale factor's size rounded up, on the side of the factor's sign": the
+/// most that edition 1 is above edition 2.
+pub fn bound(scale: u16) -> i64 {
+    let up = (signed(scale).abs() + 255) / 256;
+    up * signed(scale).signum()
+}
+
 /// The f of a sample, an exact fraction; its bottom is positive.
 #[derive(Clone, Copy, Debug, PartialEq, Eq)]
 pub struct Fraction {

@@ -4,7 +4,7 @@
 use super::tests::{bench_on, get, output, samples_of, samples_on, set, set_sum, set_table, ticks};
 use super::*;
 use crate::channel::Ramp;
-use crate::edition::Fraction;
+use crate::edition::{bound, Fraction};
 use crate::map::{CARD_ROWS, CHANNEL_ROWS};
 use crate::program::{self, Lines, Program};
 use crate::random::Random;
@@ -87,12 +87,6 @@ fn apart(scale: u16, f: Fraction) -> i64 {
         offset: 0x1234,
     };
     ramp.sum(Edition::One, f) - ramp.sum(Edition::Two, f)
-}
-
-/// The scale factor's size rounded up, on the side of the factor's sign.
-fn bound(scale: u16) -> i64 {
-    let up = (signed(scale).abs() + 255) / 256;
-    up * signed(scale).signum()
 }
 
 fn is_within(scale: u16, apart: i64) -> bool {

@@ -16,4 +16,4 @@ someLoaded k = onSome (λ c. justLoaded (channelOf k c .phase))
 -- '0x4210 and 0x4211 shall change at the first load that follows a trigger .. to that trigger's level and event'; the later loads show
 -- the same trigger again, since every trigger sets all four countdowns anew
 abbrev pub showing : Card → Card
-showing k = record { channels = k .channels; counts = k .counts; active = cond (someLoaded k) (k .pending) (k .active); pending = k .pending; edition = k .edition }
+showing k = record { edition = k .edition; channels = k .channels; counts = k .counts; active = cond (someLoaded k) (k .pending) (k .active); pending = k .pending }

@@ -1,5 +1,5 @@
--- The card: its edition, four channels, the level counts, the active trigger and the pending one; beside it the lent words. The wave tables, which only
--- ticks read, are beside the state.
+-- The card: its edition, four channels, the level counts, the active trigger and the pending one; beside it the lent words. The wave tables,
+-- which only ticks read, are beside the state.
 use mathlib.Core.Path.{_≡_}
 use mathlib.Core.Bool.{Bool, _||_, cond}
 use mathlib.Core.List.{List, [], _∷_}
@@ -55,16 +55,16 @@ channelOf k c = cond (ltb c 4) (getD (k .channels) c noChannel) noChannel
 
 -- the card with another channel c, with another count, with other channels
 abbrev pub withChannel : Card → ℕ → Channel → Card
-withChannel k c ch = cond (ltb c 4) (record { channels = set (k .channels) c ch; counts = k .counts; active = k .active; pending = k .pending; edition = k .edition }) k
+withChannel k c ch = cond (ltb c 4) (record { edition = k .edition; channels = set (k .channels) c ch; counts = k .counts; active = k .active; pending = k .pending }) k
 
 abbrev pub countOf : Card → ℕ → ℕ
 countOf k level = cond (ltb level 32) (getD (k .counts) level 0) 0
 
 abbrev pub withCount : Card → ℕ → ℕ → Card
-withCount k level n = cond (ltb level 32) (record { channels = k .channels; counts = set (k .counts) level n; active = k .active; pending = k .pending; edition = k .edition }) k
+withCount k level n = cond (ltb level 32) (record { edition = k .edition; channels = k .channels; counts = set (k .counts) level n; active = k .active; pending = k .pending }) k
 
 abbrev pub withChannels : Card → List Channel → Card
-withChannels k chs = record { channels = chs; counts = k .counts; active = k .active; pending = k .pending; edition = k .edition }
+withChannels k chs = record { edition = k .edition; channels = chs; counts = k .counts; active = k .active; pending = k .pending }
 
 -- what happens on each channel, one after the other, over the loaded tables
 pub record All : Type 0 where

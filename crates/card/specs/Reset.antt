@@ -29,11 +29,11 @@ wavesReset w = filled 4096 w 0 0
 unfoldable pub cardReset : Edition → Card
 cardReset edition =
     record {
+      edition = edition;
       channels = resetChannel ∷ resetChannel ∷ resetChannel ∷ resetChannel ∷ [];
       counts = replicate 32 0;
       active = cause 0 0xFE;
       pending = cause 0 0xFE;
-      edition = edition;
     }
 
 -- a fresh card of an edition, whatever the lent words were before

@@ -19,7 +19,7 @@ counted k level = withCount k level (grown (countOf k level))
 
 -- the trigger's level and event (0xFE if manual) are kept as pending, in the place of the last trigger's
 abbrev pub keeping : Card → Cause → Card
-keeping k t = record { channels = k .channels; counts = k .counts; active = k .active; pending = t; edition = k .edition }
+keeping k t = record { edition = k .edition; channels = k .channels; counts = k .counts; active = k .active; pending = t }
 
 -- 'on each channel, enabled or not, the countdown is set anew'
 abbrev pub struck : State → ℕ → All

@@ -165,6 +165,7 @@ fn advance(
     let active = card.active;
     let pending = card.pending;
     show(Card {
+        edition: edition,
         channels: [
             output_made(waves, 0, a),
             output_made(waves, 1, b),
@@ -174,7 +175,6 @@ fn advance(
         counts: counts,
         active: active,
         pending: pending,
-        edition: edition,
     })
 }
 
@@ -203,11 +203,11 @@ fn strike(settings: &[u16; 16960], tables: &mut [u16; 512], card: Card, level: u
     let pending = card.pending;
     let edition = card.edition;
     Card {
+        edition: edition,
         channels: [a, b, c, d],
         counts: counts,
         active: active,
         pending: pending,
-        edition: edition,
     }
 }
 
@@ -220,6 +220,7 @@ fn keep(card: Card, level: u16, event: u16) -> Card
     let active = card.active;
     let edition = card.edition;
     Card {
+        edition: edition,
         channels: channels,
         counts: counts,
         active: active,
@@ -227,7 +228,6 @@ fn keep(card: Card, level: u16, event: u16) -> Card
             level: level,
             event: event,
         },
-        edition: edition,
     }
 }
 
@@ -242,11 +242,11 @@ fn show(card: Card) -> Card
     let pending = card.pending;
     let edition = card.edition;
     Card {
+        edition: edition,
         channels: channels,
         counts: counts,
         active: either(loaded, pending, active),
         pending: pending,
-        edition: edition,
     }
 }
 
@@ -344,6 +344,7 @@ fn reset_card(edition: Edition) -> Card
 {
     let ch = channel::fresh();
     Card {
+        edition: edition,
         channels: [ch, ch, ch, ch],
         counts: [0; 32],
         active: Cause {
@@ -354,6 +355,5 @@ fn reset_card(edition: Edition) -> Card
             level: 0,
             event: 0xFE,
         },
-        edition: edition,
     }
 }

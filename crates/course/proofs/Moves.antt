@@ -27,7 +27,7 @@ module _ (ed : Edition) (s l : List ℕ) (c : ℕ) (ch : Channel) where
 
   counting : (n : ℕ) (o : Ramp) → ch .phase ≡ Counting (record { 0 = n }) o → moveOf ed s l c ch ≡ countTo ed (n - 1) o s l c ch
   unfolding moveAt
-  counting n o e = ap (λ (f : Phase). (moveAt ed) f s l c ch) e
+  counting n o e = ap (λ (f : Phase). moveAt ed f s l c ch) e
 
   move-still : (n : ℕ) → ch .phase ≡ Counting (record { 0 = n }) Still → 1 < n → (n ≡ 11 → ⊥)
       → moveOf ed s l c ch ≡ quiet (side (with ch (Counting (record { 0 = n - 1 }) Still) (ch .shown)) l)

@@ -218,15 +218,15 @@ module _ (ed : Edition) (s l : List ℕ) (c : ℕ) (ch : Channel) (v : ℕ) (roo
   o′ = before .signal .output
 
   ahead-on : Ahead ed c v w′ 1 d′ 0 s z xs
-  ahead-on = subst (λ (a : ℕ). (Ahead ed) c v w′ a d′ 0 s z xs) on (ahead ed s l c ch v room xs z)
+  ahead-on = subst (λ (a : ℕ). Ahead ed c v w′ a d′ 0 s z xs) on (ahead ed s l c ch v room xs z)
 
   tick-on : Ticked ed c v w′ 1 d′ (ticksIn xs) z q now
-  tick-on = subst (λ (a : ℕ). (Ticked ed) c v w′ a d′ (ticksIn xs) z q now) on (tick-now ed s l c ch v room xs z q)
+  tick-on = subst (λ (a : ℕ). Ticked ed c v w′ a d′ (ticksIn xs) z q now) on (tick-now ed s l c ch v room xs z q)
 
   until-start : (ys : List Act) → ys ≡ until d′ xs → Before ed c v w′ d′ u′ a′ o′ (run ed c (triggered s l c ch v) ys .channel)
   until-start ys e = (
-    ap (λ (zs : List Act). (run ed) c (triggered s l c ch v) zs .channel .shown .amplitude) e,
-    ap (λ (zs : List Act). (run ed) c (triggered s l c ch v) zs .channel .signal .output) e,
+    ap (λ (zs : List Act). run ed c (triggered s l c ch v) zs .channel .shown .amplitude) e,
+    ap (λ (zs : List Act). run ed c (triggered s l c ch v) zs .channel .signal .output) e,
   )
 
   traced : Both ed c v w′ d′ u′ a′ o′ (ticksIn xs) now

@@ -15,7 +15,7 @@ module _ (k : Card) (c : ℕ) (ch : Channel) where
   pub channel-other : (j : ℕ) → (j ≡ c → ⊥) → channelOf (withChannel k c ch) j ≡ channelOf k j
   channel-other j d = go (ltb c 4)
     where
-      go : (b : Bool) → channelOf (cond b (record { channels = set (k .channels) c ch; counts = k .counts; active = k .active; pending = k .pending; edition = k .edition }) k) j ≡ channelOf k j
+      go : (b : Bool) → channelOf (cond b (record { edition = k .edition; channels = set (k .channels) c ch; counts = k .counts; active = k .active; pending = k .pending }) k) j ≡ channelOf k j
       go true = rw (getD-set-other (k .channels) c j ch noChannel d)
       go false = refl
 
@@ -24,7 +24,7 @@ module _ (k : Card) (c : ℕ) (ch : Channel) where
   channel-either P p q = go (ltb c 4) refl (leb (length (k .channels)) c) refl
     where
       go : (b : Bool) → ltb c 4 ≡ b → (d : Bool) → leb (length (k .channels)) c ≡ d
-          → P (channelOf (cond b (record { channels = set (k .channels) c ch; counts = k .counts; active = k .active; pending = k .pending; edition = k .edition }) k) c)
+          → P (channelOf (cond b (record { edition = k .edition; channels = set (k .channels) c ch; counts = k .counts; active = k .active; pending = k .pending }) k) c)
       go true e true f = rw (set-out (k .channels) c ch (leb-true (length (k .channels)) c f)) q
       go true e false f = let g = leb-false (length (k .channels)) c f in rw (e, getD-set-same (k .channels) c ch noChannel g) p
       go false e d f = q
@@ -34,11 +34,11 @@ module _ (k : Card) (c : ℕ) (ch : Channel) where
   channel-same h l = rw (lt-ltb c 4 h) (getD-set-same (k .channels) c ch noChannel (omega arith))
 
   -- what the new channel leaves as it is in the changed card, it leaves
-  pub channel-keeps : {A : Type 0} (f : Card → A) → f (record { channels = set (k .channels) c ch; counts = k .counts; active = k .active; pending = k .pending; edition = k .edition }) ≡ f k
+  pub channel-keeps : {A : Type 0} (f : Card → A) → f (record { edition = k .edition; channels = set (k .channels) c ch; counts = k .counts; active = k .active; pending = k .pending }) ≡ f k
       → f (withChannel k c ch) ≡ f k
   channel-keeps f e = go (ltb c 4)
     where
-      go : (b : Bool) → f (cond b (record { channels = set (k .channels) c ch; counts = k .counts; active = k .active; pending = k .pending; edition = k .edition }) k) ≡ f k
+      go : (b : Bool) → f (cond b (record { edition = k .edition; channels = set (k .channels) c ch; counts = k .counts; active = k .active; pending = k .pending }) k) ≡ f k
       go true = e
       go false = refl
 
@@ -47,11 +47,11 @@ module _ (k : Card) (c : ℕ) (ch : Channel) where
 
 module _ (k : Card) (level n : ℕ) where
   -- the same of another count
-  pub count-keeps : {A : Type 0} (f : Card → A) → f (record { channels = k .channels; counts = set (k .counts) level n; active = k .active; pending = k .pending; edition = k .edition }) ≡ f k
+  pub count-keeps : {A : Type 0} (f : Card → A) → f (record { edition = k .edition; channels = k .channels; counts = set (k .counts) level n; active = k .active; pending = k .pending }) ≡ f k
       → f (withCount k level n) ≡ f k
   count-keeps f e = go (ltb level 32)
     where
-      go : (b : Bool) → f (cond b (record { channels = k .channels; counts = set (k .counts) level n; active = k .active; pending = k .pending; edition = k .edition }) k) ≡ f k
+      go : (b : Bool) → f (cond b (record { edition = k .edition; channels = k .channels; counts = set (k .counts) level n; active = k .active; pending = k .pending }) k) ≡ f k
       go true = e
       go false = refl
 

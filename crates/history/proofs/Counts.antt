@@ -37,7 +37,7 @@ module _ (level : ℕ) (inside : level < 32) where
   count-at k l n f = go (eqb level l) refl (ltb l 32) refl
     where
       go : (a : Bool) → eqb level l ≡ a → (b : Bool) → ltb l 32 ≡ b
-          → countOf (cond b (record { channels = k .channels; counts = set (k .counts) l n; active = k .active; pending = k .pending; edition = k .edition }) k) level ≡ cond a n (countOf k level)
+          → countOf (cond b (record { edition = k .edition; channels = k .channels; counts = set (k .counts) l n; active = k .active; pending = k .pending }) k) level ≡ cond a n (countOf k level)
       go true d true e =
           let g = eqb-true level l d in
           rw (lt-ltb level 32 inside, ← g) (getD-set-same (k .counts) level n 0 (omega arith))

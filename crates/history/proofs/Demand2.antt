@@ -1,7 +1,6 @@
 -- Demand 2, of its parts. Assumes nothing.
 use mathlib.Core.Path.{refl}
 use Prim.Native.Nat.{zero, suc}
-use Rattle.sum.specs.declared.Edition.{Edition}
 use Rattle.card.specs.Trigger.{acceptedOf}
 use Rattle.card.specs.Tick.{advanced, ticks}
 use Rattle.history.specs.Demand2.{TicksAre, Demand2}

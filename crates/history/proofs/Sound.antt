@@ -109,7 +109,7 @@ count-small k level n h g j = go (ltb level 32)
     at true p = set-word (λ y. y < 65536) (k .counts) level n j (λ e. h) p
     at false p = p
 
-    go : (b : Bool) → countOf (cond b (record { channels = k .channels; counts = set (k .counts) level n; active = k .active; pending = k .pending; edition = k .edition }) k) j < 65536
+    go : (b : Bool) → countOf (cond b (record { edition = k .edition; channels = k .channels; counts = set (k .counts) level n; active = k .active; pending = k .pending }) k) j < 65536
     go true = at (ltb j 32) (g j)
     go false = g j
 
@@ -260,9 +260,9 @@ module _ (st : State) (h : Sound st) where
 
 -- ---- every call
 
-reset-sound : (ed : Edition) (s l : List ℕ) → length s ≡ 16960 → length l ≡ 512 → Sound (freshOf ed s l)
+fresh-sound : (ed : Edition) (s l : List ℕ) → length s ≡ 16960 → length l ≡ 512 → Sound (freshOf ed s l)
 unfolding tablesReset cardReset
-reset-sound ed s l p q =
+fresh-sound ed s l p q =
     record {
       settings = reset-words s p;
       tables = record { many = filled-length 512 l 0 0 ∙ q; small = λ i. small i (ltb i 512) refl };
@@ -315,7 +315,7 @@ one-sound st (Tick waves event) xs w h = (tick-sound-card waves st event h, w)
 one-sound st (Write start count ws) xs w h = (write-sound st start count ws (w .0) h, w .1)
 one-sound st (Ask what) xs w h = (h, w)
 one-sound st (HandIn to ws) xs w h = (h, w)
-one-sound st Reset xs w h = (reset-sound (st .card .edition) (st .settings) (st .tables) (h .settings .many) (h .tables .many), w)
+one-sound st Reset xs w h = (fresh-sound (st .card .edition) (st .settings) (st .tables) (h .settings .many) (h .tables .many), w)
 
 acts-sound : (st : State) (xs : List Act) → Words16 xs → Sound st → Sound (acts st xs)
 acts-sound st [] w h = h
@@ -323,4 +323,4 @@ acts-sound st (x ∷ xs) w h = let r = one-sound st x xs w h in acts-sound (act 
 
 -- THE STATES THAT THE CARD COMES TO ARE SOUND
 pub reachable : Reachable
-reachable = record { reset = reset-sound; tick = tick-sound-card; ticks = ticks-sound; write = write-sound; history = acts-sound }
+reachable = record { fresh = fresh-sound; tick = tick-sound-card; ticks = ticks-sound; write = write-sound; history = acts-sound }

@@ -418,7 +418,7 @@ pub channels-right : ChannelsRight
 unfolding ChannelsRight
 channels-right ed s l p q xs w c h =
     reads c h (acts (freshOf ed s l) xs) (told c fresh (story c (freshOf ed s l) xs))
-    (acts-right c h (freshOf ed s l) (reachable .reset ed s l p q) xs w fresh (reset-right c h ed s l))
+    (acts-right c h (freshOf ed s l) (reachable .fresh ed s l p q) xs w fresh (reset-right c h ed s l))
 
 -- AFTER A RESET NO CHANNEL COUNTS OR RUNS
 pub at-rest : AtRest

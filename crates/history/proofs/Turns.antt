@@ -28,6 +28,7 @@ module _ (f : ℕ → List ℕ → Channel → Side)
     pub same : f c mid (channelOf k c) .channel ≡ channelOf (withChannels k (onAll f k l .channels)) c
     pub goes : (ed : Edition) → C.run ed c (f c mid (channelOf k c)) after ≡ side (channelOf (withChannels k (onAll f k l .channels)) c) (onAll f k l .tables)
 
+  -- whichever the edition: no act before the turn is a tick
   pub mid-length : (c : ℕ) (y : Turn c) → length (y .mid) ≡ length l
   mid-length c y = sym (ap (λ (x : Side). length (x .tables)) (y .comes First)) ∙ run-length First c (side (channelOf k c) l) (y .before)
 

@@ -39,7 +39,8 @@ sampleAmong (Output v ∷ hs) = sampleAmong hs
 sampleAmong (Clear ∷ hs) = sampleAmong hs
 sampleAmong (Fresh ∷ hs) = sampleAmong hs
 
--- in a reachable state the act x loads channel c, and the settings held then pass with the card's own edition. A ramp loaded before, under others, is not spoken of
+-- in a reachable state the act x loads channel c, and the settings held then pass with the card's own edition. A ramp loaded before, under
+-- others, is not spoken of
 pub record PassedLoad (c : ℕ) (st : State) (x : Act) : Type 0 where
   pub sound : Sound st
   pub words : Words16 (x ∷ [])

@@ -1,4 +1,4 @@
--- The states that the card comes to: what a reset makes, and every tick, transfer and history keeps.
+-- The states that the card comes to: what a fresh card is, and every tick, transfer and history keeps.
 use mathlib.Core.Path.{_≡_}
 use mathlib.Core.Bool.{true}
 use mathlib.Core.List.{List}
@@ -133,10 +133,10 @@ pub record Sound (st : State) : Type 0 where
   pub tables : Tables (st .tables)
   pub card : CardSound (st .card)
 
--- a fresh card and a reset make it, of either edition and of any lists of the card's lengths, as every call has them by type; a tick with any event, any ticks, any write and
--- any history keep it
+-- a fresh card of either edition is it, over any lists of the card's lengths, as every call has them by type; a tick with any event, any
+-- ticks, any write and any history keep it
 pub record Reachable : Type 0 where
-  pub reset : (edition : Edition) (s l : List ℕ) → length s ≡ 16960 → length l ≡ 512 → Sound (freshOf edition s l)
+  pub fresh : (edition : Edition) (s l : List ℕ) → length s ≡ 16960 → length l ≡ 512 → Sound (freshOf edition s l)
   pub tick : (w : List ℕ) (st : State) (event : ℕ) → Sound st → Sound (tickWith w st event)
   pub ticks : (w : List ℕ) (n : ℕ) (st : State) → Sound st → Sound (ticks w n st)
   pub write : (st : State) (start count : ℕ) (ws : List ℕ) → Each (λ v. v < 65536) ws → Sound st → Sound (writeOf st start count ws .state)

@@ -50,4 +50,6 @@ OneVerdict = (edition other : Edition) (s : List ℕ) → verdictOf edition s �
 -- so of demand 3's 'rounded sum .. or, where that overflows, the output held just before' the second never comes: after sample k the amplitude,
 -- and in plain mode the output, is that sample's own sum, whatever stood there before the start
 unfoldable pub NothingHeld : Type 0
-NothingHeld = (edition : Edition) (s : List ℕ) (c level : ℕ) → InRange edition s c level → (before k : ℕ) → k ≤ totalFor s c level → sumFor edition s c level k ≡ Word (latest (sumFor edition s c level) before k)
+NothingHeld =
+    (edition : Edition) (s : List ℕ) (c level : ℕ) → InRange edition s c level → (before k : ℕ) → k ≤ totalFor s c level
+    → sumFor edition s c level k ≡ Word (latest (sumFor edition s c level) before k)

@@ -1,4 +1,4 @@
--- Equations allow one outcome, and so do their pairs and what is asked beside them. Assumes nothing.
+-- Equations allow one outcome, and so do their pairs, what is asked beside them, and one for each case. Assumes nothing.
 use mathlib.Core.Path.{_≡_, sym, ap, _∙_}
 use Rattle.promises.specs.Outcomes.{OneOutcome}
 
@@ -12,4 +12,5 @@ one-outcome =
       equation = λ A d x y p q. p ∙ sym q;
       both = λ A B P Q f g x y p q. pair A B x y (f (x .0) (y .0) (p .0) (q .0)) (g (x .1) (y .1) (p .1) (q .1));
       fact = λ A P Q f x y p q. f x y (p .0) (q .0);
+      each = λ A B d b x y p q. p b ∙ sym (q b);
     }

@@ -1,4 +1,4 @@
-// The line program: frames from standard input, their answers to standard output, on a reset card.
+// The line program: frames from standard input, their answers to standard output, on a reset card of edition 1.
 use card::Card;
 use libc::STDERR_FILENO;
 use libc::STDIN_FILENO;

@@ -12,11 +12,11 @@ use Rattle.line.specs.declared.Frame.{Frame}
 use Rattle.line.specs.declared.Frame.the-variants.{Write, Read, Ticks, Event, Bad}
 use Rattle.line.specs.Frame.{wordsOf, frameOf}
 use Rattle.line.specs.Answer.{onFrame, stepOf}
-use Rattle.line.specs.Session.{linesOf, playedOf}
+use Rattle.line.specs.Session.{linesOf, playedOf, session}
 use Rattle.saved.specs.declared.Saved.the-variants.{Lines, TooShort}
-use Rattle.saved.specs.Saved.{Kept, kept, savedText, saveOf}
+use Rattle.saved.specs.Saved.{kept, savedText, saveOf}
+use Rattle.history.specs.History.{acts}
 use Rattle.history.proofs.Editions.{write-edition, tick-edition, ticks-edition}
-use Rattle.restored.specs.Restored.{SameSaved}
 use Rattle.restored.specs.Editions.{LinesAndEditions}
 use Rattle.restored.proofs.Restored.{equal-lines}
 
@@ -39,9 +39,10 @@ same-save s t o e = ap (λ (x : List ℕ). cond (ltb (length o) (length x)) (kep
 
 -- THE LINE PROGRAM'S CARD STAYS EDITION 1, AND SAVED LINES CARRY NO EDITION
 pub lines-and-editions : LinesAndEditions
-unfolding cardReset
+unfolding cardReset session
 lines-and-editions =
     record {
+      first = λ s l w input. refl;
       kept = λ ed s l w text. played-edition (wavesReset w) (freshOf ed s l) (linesOf text);
-      equal = λ x y e o. same-save (x .settings) (y .settings) o (equal-lines .equal x y e);
+      equal = λ ed ed′ s l s′ l′ xs ys e o. same-save _ _ o (equal-lines .equal (acts (freshOf ed s l) xs) (acts (freshOf ed′ s′ l′) ys) e);
     }

@@ -1,4 +1,4 @@
--- Saved lines, fed to a reset card, are all answered 0 and leave the same settings (`restored`); and two cards give equal lines exactly
+-- Saved lines, fed to a fresh card of either edition, are all answered 0 and leave the same settings (`restored`); and two cards give equal lines exactly
 -- when their settings are equal (`equal-lines`). Assumes nothing.
 use mathlib.Core.Path.{_≡_, refl, sym, ap, _∙_}
 use mathlib.Core.Bool.{Bool, true, false, not, _&&_, _||_, true≢false, or-true}
@@ -110,7 +110,7 @@ module _ (x y : State) where
 pub equal-lines : EqualLines
 equal-lines = record { equal = settings-lines; only = lines-settings }
 
--- ---- fed to a reset card
+-- ---- fed to a fresh card
 
 reset-partly : (s t : List ℕ) → length s ≡ 16960 → Partly t (settingsReset s)
 reset-partly s t l =
@@ -138,13 +138,13 @@ module _ (ed : Edition) (st : State) (v : Sound st) (s l w : List ℕ) (h : leng
   fed-same : SameSettings (fedTo ed s l w (savedText (st .settings))) st
   fed-same = rw (played .0) (same-words (state (cardReset ed) left (tablesReset l)) st left-same)
 
--- SAVED LINES, FED TO A RESET CARD, ARE ALL ANSWERED 0 AND LEAVE THE SAME SETTINGS
+-- SAVED LINES, FED TO A FRESH CARD OF EITHER EDITION, ARE ALL ANSWERED 0 AND LEAVE THE SAME SETTINGS
 pub restored : Restored
 unfolding session
 restored =
     record {
       answered = λ ed st v s l w h. played ed st v s l w h .1;
-      session = λ st v s l w h. played First st v s l w h .1;
+      lineProgram = λ st v s l w h. played First st v s l w h .1;
       settings = fed-same;
       rest = λ ed st v s l w h. let e = played ed st v s l w h .0 in (ap (λ (x : State). x .card) e, ap (λ (x : State). x .tables) e);
       again = λ ed st v s l w h. settings-lines (fedTo ed s l w (savedText (st .settings))) st (λ a e. fed-same ed st v s l w h a (saved-setting a e));

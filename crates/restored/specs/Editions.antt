@@ -5,11 +5,19 @@ use Prim.Native.Nat.{ℕ}
 use Rattle.sum.specs.declared.Edition.{Edition}
 use Rattle.sum.specs.declared.Edition.the-variants.{First}
 use Rattle.card.specs.Card.{State}
+use Rattle.card.specs.Reset.{freshOf}
+use Rattle.line.specs.Session.{session}
 use Rattle.saved.specs.Saved.{saveOf}
-use Rattle.restored.specs.Restored.{SameSaved, fedTo}
+use Rattle.history.specs.History.{Act, acts}
+use Rattle.restored.specs.Restored.{SameSaved, fedTo, answersTo}
 
 pub record LinesAndEditions : Type 0 where
-  -- no line changes the edition; the line program's session is on a card of edition 1, and so it stays
+  -- the line program's session is that of a fresh card of edition 1
+  pub first : (s l w input : List ℕ) → session s l w input ≡ answersTo First s l w input
+  -- and no line changes a card's edition
   pub kept : (edition : Edition) (s l w text : List ℕ) → fedTo edition s l w text .card .edition ≡ edition
-  -- two cards with equal settings save equal lines, whatever the edition of each
-  pub equal : (x y : State) → SameSaved x y → (buffer : List ℕ) → saveOf (x .settings) buffer ≡ saveOf (y .settings) buffer
+  -- two cards, each of its own edition and with its own history, that have equal settings save equal lines
+  pub equal : (edition other : Edition) (s l s′ l′ : List ℕ) (xs ys : List Act)
+      → let x : State = acts (freshOf edition s l) xs in
+      let y : State = acts (freshOf other s′ l′) ys in
+      SameSaved x y → (buffer : List ℕ) → saveOf (x .settings) buffer ≡ saveOf (y .settings) buffer

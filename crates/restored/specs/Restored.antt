@@ -18,7 +18,7 @@ use Rattle.saved.specs.Laws.{within}
 use Rattle.history.specs.History.{readBack}
 use Rattle.history.specs.Sound.{Sound}
 
--- ---- fed to a reset card
+-- ---- fed to a fresh card
 
 -- 'all answered 0', all words of each frame processed
 abbrev pub answeredAll : List Span → List ℕ
@@ -46,7 +46,7 @@ pub record Restored : Type 0 where
   pub answered : (edition : Edition) (st : State) → Sound st → (s l w : List ℕ) → length s ≡ 16960
       → answersTo edition s l w (savedText (st .settings)) ≡ answeredAll frames
   -- the line program's session among them
-  pub session : (st : State) → Sound st → (s l w : List ℕ) → length s ≡ 16960 → session s l w (savedText (st .settings)) ≡ answeredAll frames
+  pub lineProgram : (st : State) → Sound st → (s l w : List ℕ) → length s ≡ 16960 → session s l w (savedText (st .settings)) ≡ answeredAll frames
   pub settings : (edition : Edition) (st : State) → Sound st → (s l w : List ℕ) → length s ≡ 16960 → SameSettings (fedTo edition s l w (savedText (st .settings))) st
   -- and nothing else of the fresh card changes
   pub rest : (edition : Edition) (st : State) → Sound st → (s l w : List ℕ) → length s ≡ 16960

@@ -1,1 +1,1 @@
-// Theorems of saved lines, fed to a reset card. There is no code here.
+// Theorems of saved lines, fed to a fresh card. There is no code here.

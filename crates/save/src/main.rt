@@ -1,5 +1,5 @@
-// The program save: plays lines from standard input on a reset card, then writes its settings as lines to standard output. A line that is
-// not answered 0 is told on standard error, and the rest goes on.
+// The program save: plays lines from standard input on a reset card of edition 1, then writes its settings as lines to standard output. A line
+// that is not answered 0 is told on standard error, and the rest goes on.
 use card::Card;
 use libc::STDERR_FILENO;
 use libc::STDIN_FILENO;

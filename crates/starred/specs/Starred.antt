@@ -29,7 +29,8 @@ pub record Comes (d : Delay) : Type 0 where
   pub load-on : (edition : Edition) (s w l : List ℕ) (c : ℕ) (ch : Channel) (level : ℕ) → word s (delayAt c level) ≡ d .delay
       → ticked edition (d .loads) s w c (triggered s l c ch level) ≡ load s l c ch level
   pub start-on : (edition : Edition) (s w l : List ℕ) (c : ℕ) (ch : Channel) (level : ℕ) → word s (delayAt c level) ≡ d .delay
-      → ticked edition (d .starts) s w c (triggered s l c ch level) ≡ soundedSide w c (start edition s (load s l c ch level .tables) c (ticked edition (d .starts - 1) s w c (triggered s l c ch level) .channel))
+      → ticked edition (d .starts) s w c (triggered s l c ch level)
+      ≡ soundedSide w c (start edition s (load s l c ch level .tables) c (ticked edition (d .starts - 1) s w c (triggered s l c ch level) .channel))
 
 -- ---- a transfer: words written from a start on, to a state of which something is given
 

@@ -5,10 +5,10 @@ use super::{answer, is_pending, Player};
 use crate::bench::Frame;
 use crate::card::{Card, CHANNELS};
 use crate::channel::{Given, Look};
-use crate::edition::{Edition, Fraction};
+use crate::edition::{bound, Edition, Fraction};
 use crate::line;
 use crate::program::Program;
-use crate::sine::{in_range, signed};
+use crate::sine::in_range;
 
 const BEGIN_TWO: &str = "sessions that begin with a fresh card of edition 2";
 const BEGIN_ONE: &str = "sessions that begin with a fresh card of edition 1";
@@ -109,11 +109,6 @@ impl Twin {
     }
 }
 
-/// The scale factor's size rounded up.
-fn bound(scale: u16) -> i64 {
-    (signed(scale).abs() + 255) / 256
-}
-
 /// Samples.
 impl Player<'_> {
     fn is_two(&self) -> bool {
@@ -140,7 +135,7 @@ impl Player<'_> {
     fn summed(&mut self, look: &Look, f: Fraction) {
         let one = look.ramp.sum(Edition::One, f);
         let two = look.ramp.sum(Edition::Two, f);
-        let all = (one - two).abs() == bound(look.ramp.scale) && (one - two).abs() > 1;
+        let all = one - two == bound(look.ramp.scale) && (one - two).abs() > 1;
         self.count(LESS, two < one);
         self.count(GREATER, two > one);
         self.count(LESS_BY_BOUND, two < one && all);

@@ -32,6 +32,7 @@ returns c = search needs
 loop-less : tie.Need-loop-less Inv-loop μ-loop
 loop-less c = search needs
 
+-- it stands further back than a search looks
 loop-again : tie.Need-loop-again Inv-loop μ-loop
 loop-again c = c .before .before .before .before .before .before .before .before .before .before .before .before .before .before .before .loop .inv
 

@@ -12,7 +12,7 @@ use Rattle.card.proofs.reset_card.Statement.{statement}
 use Rattle.card.proofs.reset_card.Tie as tie
 
 abbrev cardOf : Edition → Channel → Card
-cardOf ed ch = record { channels = ch ∷ ch ∷ ch ∷ ch ∷ []; counts = replicate 32 0; active = cause 0 0xFE; pending = cause 0 0xFE; edition = ed }
+cardOf ed ch = record { edition = ed; channels = ch ∷ ch ∷ ch ∷ ch ∷ []; counts = replicate 32 0; active = cause 0 0xFE; pending = cause 0 0xFE }
 
 fresh-requires : tie.Need-fresh-requires
 fresh-requires c κs = search needs

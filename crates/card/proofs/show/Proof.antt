@@ -10,9 +10,9 @@ use Rattle.card.proofs.show.Tie as tie
 
 -- the card with another active cause: x, which is the pending one if the test comes out true
 chosen : (k : Card) {x : Cause} {b : Bool} → x ≡ cond b (k .pending) (k .active) → b ≡ someLoaded k
-    → record { channels = k .channels; counts = k .counts; active = x; pending = k .pending; edition = k .edition } ≡ showing k
+    → record { edition = k .edition; channels = k .channels; counts = k .counts; active = x; pending = k .pending } ≡ showing k
 chosen k e f =
-    ap (λ (y : Cause). record { channels = k .channels; counts = k .counts; active = y; pending = k .pending; edition = k .edition })
+    ap (λ (y : Cause). record { edition = k .edition; channels = k .channels; counts = k .counts; active = y; pending = k .pending })
     (e ∙ ap (λ (t : Bool). cond t (k .pending) (k .active)) f)
 
 some-loaded-requires : tie.Need-some-loaded-requires
