@@ -34,6 +34,34 @@ use Rattle.course.proofs.Points.{differ}
 use Rattle.course.proofs.Moves.{move-start, move-give, free-give, tick-made, tick-still, tick-load, tick-off, tick-wait, tick-free-wait, tick-count}
 use Rattle.course.proofs.Signals.{Counted, signal-counted, first-made, next-made, free-made}
 
+-- ---- the load, for level v under the settings w
+
+module _ (c v : ℕ) (w : List ℕ) where
+  -- what it leaves
+  pub record Held (x : Side) : Type 0 where
+    pub loaded : x .channel .loaded ≡ loadedFor w c v
+    pub table : SameTable (x .tables) (firstOf c) w (tableFor w c v)
+
+  pub loads : (x : Side) → 128 * c + 128 ≤ length (x .tables) → Held (load w (x .tables) c (x .channel) v)
+  unfolding load
+  loads x r =
+      record {
+        loaded = refl;
+        table = λ i h. copied-in 128 w (tableAt c (word w (rampMapAt c v))) (x .tables) (firstOf c) i h (omega arith);
+      }
+
+  pub load-phase : (x : Side) → load w (x .tables) c (x .channel) v .channel .phase ≡ Counting (record { 0 = 10 }) Still
+  unfolding load
+  load-phase x = refl
+
+  load-shown : (x : Side) → load w (x .tables) c (x .channel) v .channel .shown ≡ blank (x .channel .shown)
+  unfolding load
+  load-shown x = refl
+
+  load-signal : (x : Side) → load w (x .tables) c (x .channel) v .channel .signal ≡ x .channel .signal
+  unfolding load
+  load-signal x = refl
+
 -- ---- a trigger of level v sets the countdown d; the settings w are held on tick d − 10, and A00 is a on tick d
 
 module _ (ed : Edition) (c v : ℕ) (w : List ℕ) (a d : ℕ) where
@@ -47,27 +75,22 @@ module _ (ed : Edition) (c v : ℕ) (w : List ℕ) (a d : ℕ) where
   abbrev spot : ℕ → Place
   spot k = placeFor w c v k
 
-  -- what the load leaves
-  pub record Held (x : Side) : Type 0 where
-    pub loaded : x .channel .loaded ≡ loadedFor w c v
-    pub table : SameTable (x .tables) (firstOf c) w from
-
   -- what holds of the channel t ticks after the trigger
   pub data Course (t : ℕ) (x : Side) : Type 0 where
     -- the load is to come
     waits : (n : ℕ) (o : Ramp) → t + n ≡ d → 10 < n → x .channel .level ≡ v → x .channel .phase ≡ Counting (record { 0 = n }) o → Course t x
     -- loaded, and the start is to come
-    starts : (n : ℕ) → t + n ≡ d → 1 ≤ n → n ≤ 10 → Held x → x .channel .phase ≡ Counting (record { 0 = n }) Still → Course t x
+    starts : (n : ℕ) → t + n ≡ d → 1 ≤ n → n ≤ 10 → Held c v w x → x .channel .phase ≡ Counting (record { 0 = n }) Still → Course t x
     -- sample k was the last, and the next comes in r ticks
-    runs : (k r : ℕ) → a ≡ 1 → t + r ≡ d + 10 * (k + 1) → 1 ≤ r → r ≤ 10 → k < T → Held x → Counted ed c v w k (x .channel .signal)
+    runs : (k r : ℕ) → a ≡ 1 → t + r ≡ d + 10 * (k + 1) → 1 ≤ r → r ≤ 10 → k < T → Held c v w x → Counted ed c v w k (x .channel .signal)
         → x .channel .phase ≡ Running (way (spot k) r 10) → Course t x
     -- the same, the end's sample or one after it
-    frees : (k r : ℕ) → a ≡ 1 → freeFor w c v ≡ true → t + r ≡ d + 10 * (k + 1) → 1 ≤ r → r ≤ 10 → T ≤ k → Held x
+    frees : (k r : ℕ) → a ≡ 1 → freeFor w c v ≡ true → t + r ≡ d + 10 * (k + 1) → 1 ≤ r → r ≤ 10 → T ≤ k → Held c v w x
         → Counted ed c v w k (x .channel .signal) → x .channel .phase ≡ FreeRunning (way (spot T) r 10) → Course t x
     -- the end was reached
-    rests : a ≡ 1 → freeFor w c v ≡ false → d + 10 * T ≤ t → Held x → x .channel .phase ≡ Rest → Course t x
+    rests : a ≡ 1 → freeFor w c v ≡ false → d + 10 * T ≤ t → Held c v w x → x .channel .phase ≡ Rest → Course t x
     -- nothing started
-    off : (a ≡ 1 → ⊥) → d ≤ t → Held x → x .channel .phase ≡ Rest → Course t x
+    off : (a ≡ 1 → ⊥) → d ≤ t → Held c v w x → x .channel .phase ≡ Rest → Course t x
 
   -- the channel after a tick under the settings z, with the wave tables u
   abbrev pub next-tick : List ℕ → List ℕ → Side → Side
@@ -85,7 +108,7 @@ module _ (ed : Edition) (c v : ℕ) (w : List ℕ) (a d : ℕ) where
     pub still : d ≤ t + 10 → (a ≡ 1 → (k : ℕ) → Plays w c v k → t + 1 ≡ d + 10 * k → ⊥) → next-tick z u x .channel .signal ≡ x .channel .signal
 
   -- the same copy, another phase, another ramp value and another signal
-  held-with : (x : Side) (p : Phase) (s : Shown) (g : Signal) → Held x → Held (side (withSignal (with (x .channel) p s) g) (x .tables))
+  held-with : (x : Side) (p : Phase) (s : Shown) (g : Signal) → Held c v w x → Held c v w (side (withSignal (with (x .channel) p s) g) (x .tables))
   held-with x p s g h = record { loaded = h .loaded; table = h .table }
 
   -- ---- a sample of the ramp
@@ -100,7 +123,7 @@ module _ (ed : Edition) (c v : ℕ) (w : List ℕ) (a d : ℕ) where
       let s : Shown = sampleFor ed w c v k (x .channel .shown) in
       side (withSignal (with (x .channel) (past k) s) (signalFor ed u w c v k (s .amplitude) (x .channel .signal))) (x .tables)
 
-  gave : (k t : ℕ) (x : Side) → a ≡ 1 → k ≤ T → t ≡ d + 10 * k → Held x → Counted ed c v w k (x .channel .signal) → x .channel .phase ≡ past k → Course t x
+  gave : (k t : ℕ) (x : Side) → a ≡ 1 → k ≤ T → t ≡ d + 10 * k → Held c v w x → Counted ed c v w k (x .channel .signal) → x .channel .phase ≡ past k → Course t x
   unfolding ended
   gave k t x y h q e n f = go (leb T k) refl (freeFor w c v) refl
     where
@@ -116,7 +139,7 @@ module _ (ed : Edition) (c v : ℕ) (w : List ℕ) (a d : ℕ) where
           (f ∙ rw (ne-eqb (spot k .left .0) 0 (λ q. absurd (omega arith))))
 
   -- a tick that gives sample k of the ramp, and no other
-  sampled : (k t : ℕ) (z u : List ℕ) (x : Side) → a ≡ 1 → k ≤ T → t + 1 ≡ d + 10 * k → Held x → next-tick z u x ≡ sampled-at k u x → Ticked t z u x
+  sampled : (k t : ℕ) (z u : List ℕ) (x : Side) → a ≡ 1 → k ≤ T → t + 1 ≡ d + 10 * k → Held c v w x → next-tick z u x ≡ sampled-at k u x → Ticked t z u x
   sampled k t z u x y h q e o =
       record {
         course = rw o (gave k (t + 1) (sampled-at k u x) y h q (held-with x _ _ _ e) (signal-counted ed c v w u _ (x .channel .signal) k) refl);
@@ -143,7 +166,7 @@ module _ (ed : Edition) (c v : ℕ) (w : List ℕ) (a d : ℕ) where
       }
 
   -- the start, and the sample after sample k, read from the copy
-  first-given : (z u : List ℕ) (x : Side) (n : ℕ) → Held x → x .channel .phase ≡ Counting (record { 0 = n }) Still → n ≤ 1 → word z (enableAt c) ≡ 1
+  first-given : (z u : List ℕ) (x : Side) (n : ℕ) → Held c v w x → x .channel .phase ≡ Counting (record { 0 = n }) Still → n ≤ 1 → word z (enableAt c) ≡ 1
       → next-tick z u x ≡ sampled-at 0 u x
   unfolding given
   first-given z u x n h f g e =
@@ -156,7 +179,7 @@ module _ (ed : Edition) (c v : ℕ) (w : List ℕ) (a d : ℕ) where
         first-made ed c v w u _ (x .channel .signal),
       )
 
-  next-given : (z u : List ℕ) (x : Side) (k r : ℕ) → Held x → Counted ed c v w k (x .channel .signal) → x .channel .phase ≡ Running (way (spot k) r 10)
+  next-given : (z u : List ℕ) (x : Side) (k r : ℕ) → Held c v w x → Counted ed c v w k (x .channel .signal) → x .channel .phase ≡ Running (way (spot k) r 10)
       → r ≤ 1 → k < T → next-tick z u x ≡ sampled-at (k + 1) u x
   unfolding given
   next-given z u x k r h n f g i =
@@ -178,7 +201,7 @@ module _ (ed : Edition) (c v : ℕ) (w : List ℕ) (a d : ℕ) where
       (withSignal (with (x .channel) (FreeRunning (way (spot T) 10 10)) (x .channel .shown)) (signalFor ed u w c v k (x .channel .shown .amplitude) (x .channel .signal)))
       (x .tables)
 
-  free-given : (z u : List ℕ) (x : Side) (k r : ℕ) → Held x → Counted ed c v w k (x .channel .signal) → x .channel .phase ≡ FreeRunning (way (spot T) r 10)
+  free-given : (z u : List ℕ) (x : Side) (k r : ℕ) → Held c v w x → Counted ed c v w k (x .channel .signal) → x .channel .phase ≡ FreeRunning (way (spot T) r 10)
       → r ≤ 1 → T ≤ k → freeFor w c v ≡ true → next-tick z u x ≡ free-at (k + 1) u x
   free-given z u x k r h n f g i e =
       rw (
@@ -187,7 +210,7 @@ module _ (ed : Edition) (c v : ℕ) (w : List ℕ) (a d : ℕ) where
         free-made ed c v w u (x .channel .shown .amplitude) (x .channel .signal) k i e n,
       )
 
-  free-sampled : (k t : ℕ) (z u : List ℕ) (x : Side) → a ≡ 1 → freeFor w c v ≡ true → T < k → t + 1 ≡ d + 10 * k → Held x
+  free-sampled : (k t : ℕ) (z u : List ℕ) (x : Side) → a ≡ 1 → freeFor w c v ≡ true → T < k → t + 1 ≡ d + 10 * k → Held c v w x
       → next-tick z u x ≡ free-at k u x → Ticked t z u x
   free-sampled k t z u x y m h q e o =
       record {
@@ -202,28 +225,6 @@ module _ (ed : Edition) (c v : ℕ) (w : List ℕ) (a d : ℕ) where
         made = λ b j i g. let kj : k ≡ j = omega arith in rw (← kj, o);
         still = λ b n. absurd (n y k (inr m) q);
       }
-
-  -- ---- the load
-
-  pub loads : (x : Side) → 128 * c + 128 ≤ length (x .tables) → Held (load w (x .tables) c (x .channel) v)
-  unfolding load
-  loads x r =
-      record {
-        loaded = refl;
-        table = λ i h. copied-in 128 w (tableAt c (word w (rampMapAt c v))) (x .tables) (firstOf c) i h (omega arith);
-      }
-
-  pub load-phase : (x : Side) → load w (x .tables) c (x .channel) v .channel .phase ≡ Counting (record { 0 = 10 }) Still
-  unfolding load
-  load-phase x = refl
-
-  load-shown : (x : Side) → load w (x .tables) c (x .channel) v .channel .shown ≡ blank (x .channel .shown)
-  unfolding load
-  load-shown x = refl
-
-  load-signal : (x : Side) → load w (x .tables) c (x .channel) v .channel .signal ≡ x .channel .signal
-  unfolding load
-  load-signal x = refl
 
   -- ---- any tick
 
@@ -292,7 +293,7 @@ module _ (ed : Edition) (c v : ℕ) (w : List ℕ) (a d : ℕ) where
       go true g =
           let n1 : n ≡ 11 = omega (arith, leb-true) in
           let y : next-tick z u x ≡ load w (x .tables) c (x .channel) v = tick-load ed z (x .tables) c (x .channel) u n o f n1 ∙ rw (e, lo (omega arith)) in
-          early (λ i. rw y (load-shown x)) (λ i. rw y (load-signal x)) (rw y (starts 10 (omega arith) (omega arith) (omega arith) (loads x m) (load-phase x)))
+          early (λ i. rw y (load-shown c v w x)) (λ i. rw y (load-signal c v w x)) (rw y (starts 10 (omega arith) (omega arith) (omega arith) (loads c v w x m) (load-phase c v w x)))
       go false g =
           let n1 : 11 < n = omega (arith, leb-false) in
           let y = tick-count ed z (x .tables) c (x .channel) u n o f n1 in
@@ -305,7 +306,7 @@ module _ (ed : Edition) (c v : ℕ) (w : List ℕ) (a d : ℕ) where
       → x′ .channel .signal .counter ≡ x .channel .signal .counter → SameTable (x′ .tables) (firstOf c) (x .tables) (firstOf c) → Course t x → Course t x′
   kept t x x′ i p q j s y = go y
     where
-      same : Held x → Held x′
+      same : Held c v w x → Held c v w x′
       same h = record { loaded = p ∙ h .loaded; table = λ n g. s n g ∙ h .table n g }
 
       as-counted : (k : ℕ) → Counted ed c v w k (x .channel .signal) → Counted ed c v w k (x′ .channel .signal)

@@ -27,7 +27,7 @@ use Rattle.course.proofs.Course.{Held, Course, waits, starts, runs, fre
 -- a load sets the course, 10 ticks before the start
 load-starts : (ed : Edition) (c v : ℕ) (s : List ℕ) (a : ℕ) (l : List ℕ) (ch : Channel) → 128 * c + 128 ≤ length l → Course ed c v s a 10 0 (load s l c ch v)
 load-starts ed c v s a l ch m =
-    starts 10 (omega arith) (omega arith) (omega arith) (loads ed c v s a 10 (side ch l) m) (load-phase ed c v s a 10 (side ch l))
+    starts 10 (omega arith) (omega arith) (omega arith) (loads c v s (side ch l) m) (load-phase c v s (side ch l))
 
 module _ (ed : Edition) (s l : List ℕ) (c : ℕ) (ch : Channel) (v : ℕ) (room : 128 * c + 128 ≤ length l) (xs : List Act) (z : List ℕ) where
   abbrev d : ℕ
@@ -74,7 +74,7 @@ module _ (ed : Edition) (s l : List ℕ) (c : ℕ) (ch : Channel) (v : ℕ) (roo
       (λ q. let e : d ≡ suc (ticksIn xs) = omega arith in rw (e, held-next s z (ticksIn xs) xs (omega arith)))
       course-now
 
-  held-of : d ≤ ticksIn xs + 10 → (x : Side) → Course ed c v w a d (ticksIn xs) x → Held ed c v w a d x
+  held-of : d ≤ ticksIn xs + 10 → (x : Side) → Course ed c v w a d (ticksIn xs) x → Held c v w x
   held-of h x (waits n o q p e f) = absurd (omega arith)
   held-of h x (starts n q p b e f) = e
   held-of h x (runs k r y q p b g e n f) = e

@@ -20,7 +20,7 @@ use Rattle.card.specs.Tick.{advanced}
 use Rattle.card.specs.Reset.{cardReset, freshOf}
 use Rattle.transfer.specs.Transfer.{writeOf}
 use Rattle.course.proofs.Copies.{choose}
-use Rattle.history.specs.History.{Act, Tick, Write, Ask, HandIn, Reset, act, acts, wordsDone, manualAmong, triggerBy, isReset, Quiet, ticksIn}
+use Rattle.history.specs.History.{Act, Tick, Write, Ask, HandIn, Renew, act, acts, wordsDone, manualAmong, triggerBy, isReset, Quiet, ticksIn}
 use Rattle.history.specs.Effects.{Does, Keeps, Outputs, ClearsOverflow, ClearsCount, Erases, Idles, Triggers}
 use Rattle.history.specs.Triggers.{eventBy}
 use Rattle.history.specs.Story.{byTrigger, inTick, atTrigger}
@@ -62,7 +62,7 @@ before-active st (Tick waves event) = advanced-active waves st
 before-active st (Write start count ws) = refl
 before-active st (Ask what) = refl
 before-active st (HandIn to ws) = refl
-before-active st Reset = refl
+before-active st (Renew how) = refl
 
 module _ (st : State) (x : Act) (level : ℕ) (e : triggerBy st x ≡ Level level) where
   -- an act that is a trigger keeps it, and shows it where some channel loads at once
@@ -115,7 +115,7 @@ act-shown st x later =
     quiet (Write start count ws) e = still later (act st (Write start count ws) .card) (write-keeps st start count ws e)
     quiet (Ask what) e = refl
     quiet (HandIn to ws) e = refl
-    quiet Reset e = choose (λ (x : Cause). x ≡ atReset) later atReset atReset refl refl
+    quiet (Renew how) e = choose (λ (x : Cause). x ≡ atReset) later atReset atReset refl refl
 
     go : (h : Holder) → triggerBy st x ≡ h
         → cond later (act st x .card .pending) (act st x .card .active)
@@ -156,7 +156,7 @@ quiet-last st (x ∷ xs) q old = quiet-last (act st x) xs (q .1) _ ∙ go x (q .
     go (Write start count ws) e f = rw e
     go (Ask what) e f = refl
     go (HandIn to ws) e f = refl
-    go Reset e f = absurd (true≢false f)
+    go (Renew how) e f = absurd (true≢false f)
 
 module _ (st : State) (x : Act) (level : ℕ) (xs : List Act) (h : LastTrigger st x level xs) where
   abbrev t : Cause
@@ -253,7 +253,7 @@ first-load st (Write start count ws ∷ xs) f q m r =
     (same-first st (act st (Write start count ws)) m (λ c h. ap toStart (part-keeps c st _ (write-part c h st start count ws f e) .phase)) r))
 first-load st (Ask what ∷ xs) f q m r = first-load st xs f (q .1) m r
 first-load st (HandIn to ws ∷ xs) f q m r = first-load st xs f (q .1) m r
-first-load st (Reset ∷ xs) f q m r = absurd (true≢false (q .0 .noReset))
+first-load st (Renew how ∷ xs) f q m r = absurd (true≢false (q .0 .noReset))
 
 -- one of the four delays is the shortest
 record Shortest (s : List ℕ) (level : ℕ) : Type 0 where

@@ -22,7 +22,7 @@ use Rattle.card.specs.Trigger.{struck, triggerOf, acceptedOf, onEvent}
 use Rattle.card.specs.Tick.{advanced}
 use Rattle.card.specs.Reset.{cardReset, freshOf}
 use Rattle.transfer.specs.Transfer.{writeOf}
-use Rattle.history.specs.History.{Act, Tick, Write, Ask, HandIn, Reset, act, acts, wordsDone, manualAmong, triggerBy}
+use Rattle.history.specs.History.{Act, Tick, Write, Ask, HandIn, Renew, editionBy, act, acts, wordsDone, manualAmong, triggerBy}
 use Rattle.history.specs.Effects.{Does, Keeps, Outputs, ClearsOverflow, ClearsCount, Erases, Idles, Triggers}
 use Rattle.history.specs.Counts.{doesAt, clears, tally, triggersSince, CountsRight}
 use Rattle.history.proofs.Addresses.{count-register}
@@ -153,7 +153,7 @@ module _ (level : ℕ) (inside : level < 32) where
   acts-right st (Write start count ws ∷ xs) n h = acts-right (act st (Write start count ws)) xs _ (write-right st start count ws n h)
   acts-right st (Ask what ∷ xs) n h = acts-right st xs n h
   acts-right st (HandIn to ws ∷ xs) n h = acts-right st xs n h
-  acts-right st (Reset ∷ xs) n h = acts-right (act st Reset) xs 0 (reset-right (st .card .edition) (st .settings) (st .tables))
+  acts-right st (Renew how ∷ xs) n h = acts-right (act st (Renew how)) xs 0 (reset-right (editionBy how (st .card .edition)) (st .settings) (st .tables))
 
 -- A LEVEL'S COUNT IS THE NUMBER OF ITS ACCEPTED TRIGGERS SINCE ITS LAST CLEARING
 pub counts-right : CountsRight

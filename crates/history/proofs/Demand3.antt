@@ -28,7 +28,7 @@ use Rattle.history.specs.History.{Act, Tick, act, acts, ticksIn, until, 
 use Rattle.history.specs.Triggers.{eventBy}
 use Rattle.history.specs.Countdowns.{justBefore}
 use Rattle.history.specs.Demand3.{sideAt, Demand3}
-use Rattle.history.proofs.Editions.{acts-edition}
+use Rattle.history.proofs.Editions.{quiet-edition}
 use Rattle.history.proofs.Tracks.{until-untimed, held-untimed, waves-untimed, held-end, waves-end, TickTurn, tick-turn, quiet-tick, tick-same, TriggerTurn, trigger-turn, trigger-goes, trigger-four, Tracked, tracked, trigger-is, before-room}
 
 -- what is so now, and what the next tick does
@@ -228,7 +228,7 @@ demand3-card st room x level is xs waves event quiet none c inside =
     let t = trigger-is st x level is in
     let ed = act st x .card .edition in
     let r = tracked ed c inside (act st x) xs refl (rw t (trigger-four k level (eventBy x))) quiet in
-    let own = acts-edition (act st x) xs in
+    let own = quiet-edition (act st x) xs quiet in
     let y = trigger-turn k level c inside in
     let w = tick-turn waves (acts (act st x) xs) c inside in
     let later = act (acts (act st x) xs) (Tick waves event) in

@@ -1,5 +1,6 @@
--- No act changes the edition: a tick does not, a word done does not, and a reset keeps it (`edition-kept`). Assumes nothing.
-use mathlib.Core.Path.{_≡_, refl, _∙_}
+-- Only a fresh card has an edition of its own: a tick changes none, a word done does not, and a reset keeps it (`edition-kept`). Assumes nothing.
+use mathlib.Core.Path.{_≡_, refl, ap, _∙_}
+use mathlib.Core.Bool.{true≢false, false}
 use mathlib.Core.List.{List, [], _∷_}
 use Prim.Native.Nat.{ℕ, zero, suc}
 use Rattle.map.specs.Map.{registerOf}
@@ -10,13 +11,13 @@ use Rattle.card.specs.declared.Card.{Card}
 use Rattle.card.specs.Card.{State, withChannel, withChannels, withCount}
 use Rattle.card.specs.Trigger.{struck, triggerOf, acceptedOf, onEvent}
 use Rattle.card.specs.Tick.{advanced, tickWith, ticks}
-use Rattle.card.specs.Reset.{cardReset, freshOf}
+use Rattle.card.specs.Reset.{cardReset}
 use Rattle.transfer.specs.declared.Effect.{Effect}
 use Rattle.transfer.specs.declared.Effect.the-variants.{Keep, Output, ClearOverflow, ClearCount, Erase, Trigger, Nothing}
 use Rattle.transfer.specs.Word.{effectOf, performOf}
 use Rattle.transfer.specs.Transfer.{writeOf}
-use Rattle.history.specs.History.{Act, Tick, Write, Ask, HandIn, Reset, act, acts}
-use Rattle.history.specs.Editions.{EditionKept}
+use Rattle.history.specs.History.{Act, Tick, Write, Ask, HandIn, Renew, act, acts, isReset, Quiet}
+use Rattle.history.specs.Editions.{editionAfter, lastChosen, EditionKept}
 use Rattle.history.proofs.Cards.{channel-keeps, count-keeps}
 use Rattle.history.proofs.Writing.{write-by}
 
@@ -62,20 +63,32 @@ done-edition st a Nothing = refl
 pub write-edition : (st : State) (start count : ℕ) (ws : List ℕ) → writeOf st start count ws .state .card .edition ≡ st .card .edition
 write-edition = write-by (λ st a vs z. z .card .edition ≡ st .card .edition) (λ st a. refl) (λ st a v vs z p e. e ∙ done-edition st a (effectOf (registerOf a) v))
 
--- AN ACT KEEPS THE EDITION
-pub act-edition : (st : State) (x : Act) → act st x .card .edition ≡ st .card .edition
+-- ---- acts
+
+pub act-edition : (st : State) (x : Act) → act st x .card .edition ≡ editionAfter x (st .card .edition)
 unfolding cardReset
 act-edition st (Tick waves event) = tick-edition waves st event
 act-edition st (Write start count ws) = write-edition st start count ws
 act-edition st (Ask what) = refl
 act-edition st (HandIn to ws) = refl
-act-edition st Reset = refl
+act-edition st (Renew how) = refl
 
-pub acts-edition : (st : State) (xs : List Act) → acts st xs .card .edition ≡ st .card .edition
+acts-edition : (st : State) (xs : List Act) → acts st xs .card .edition ≡ lastChosen xs (st .card .edition)
 acts-edition st [] = refl
-acts-edition st (x ∷ xs) = acts-edition (act st x) xs ∙ act-edition st x
+acts-edition st (x ∷ xs) = acts-edition (act st x) xs ∙ ap (lastChosen xs) (act-edition st x)
+
+-- with no reset and no fresh card among them it stays
+pub quiet-edition : (st : State) (xs : List Act) → Quiet st xs → acts st xs .card .edition ≡ st .card .edition
+quiet-edition st [] q = refl
+quiet-edition st (x ∷ xs) q = quiet-edition (act st x) xs (q .1) ∙ act-edition st x ∙ go x (q .0 .noReset)
+  where
+    go : (y : Act) → isReset y ≡ false → editionAfter y (st .card .edition) ≡ st .card .edition
+    go (Tick waves event) e = refl
+    go (Write start count ws) e = refl
+    go (Ask what) e = refl
+    go (HandIn to ws) e = refl
+    go (Renew how) e = absurd (true≢false e)
 
 -- CHOSEN WITH THE FRESH CARD, THE EDITION STAYS
 pub edition-kept : EditionKept
-unfolding cardReset
-edition-kept = record { kept = acts-edition; chosen = λ ed s l xs. acts-edition (freshOf ed s l) xs }
+edition-kept = record { kept = acts-edition; fresh = λ st ed. refl; reset = λ st. refl }

@@ -26,9 +26,9 @@ use Rattle.course.specs.Course as C
 use Rattle.course.proofs.Copies.{choose, tick-length, trigger-length}
 use Rattle.course.proofs.Acts.{untimed-table}
 use Rattle.course.proofs.Course.{loads}
-use Rattle.profile.specs.Laws.{InRange}
-use Rattle.profile.proofs.Right.{verdict-right}
-use Rattle.history.specs.History.{Act, Tick, Write, Ask, HandIn, Reset, act, acts, wordsDone, triggerBy, Words16}
+use Rattle.profile.specs.Laws.{InRange, OneVerdict}
+use Rattle.profile.proofs.Right.{verdict-right, one-verdict}
+use Rattle.history.specs.History.{Act, Tick, Write, Ask, HandIn, Renew, editionBy, act, acts, wordsDone, triggerBy, Words16}
 use Rattle.history.specs.Sound.{Sound}
 use Rattle.history.specs.Triggers.{eventBy}
 use Rattle.history.specs.Countdowns.{justBefore}
@@ -36,7 +36,6 @@ use Rattle.history.specs.Demand3.{sideAt}
 use Rattle.history.specs.Story.{Happening, Load, Sample, FreeSample, Output, Clear, Fresh, byTick, byTrigger, byWord, byWords, inTick, atTrigger, happens, story}
 use Rattle.history.specs.Active.{loadAmong}
 use Rattle.history.specs.InRange.{outBeforeLoad, PassedLoad, NoSumCounted, NeverOut}
-use Rattle.history.proofs.Editions.{act-edition, acts-edition}
 use Rattle.history.proofs.Addresses.{overflow-register}
 use Rattle.history.proofs.Sound.{one-sound}
 use Rattle.history.proofs.Turns.{Turn, mid-length}
@@ -93,87 +92,91 @@ words-in c a (v ∷ vs) =
     (words-in c (a + 1) vs)
 
 -- a turn of channel c: what is so of it where its turn comes, and of the card's channel once all have had theirs
-module _ (ed : Edition) (s : List ℕ) (c v : ℕ) (f : ℕ → List ℕ → Channel → Side)
+module _ (s : List ℕ) (c v : ℕ) (f : ℕ → List ℕ → Channel → Side)
     (beside : (b c : ℕ) (l : List ℕ) (ch : Channel) → (b ≡ c → ⊥) → C.elsewhere c l (f b l ch .tables) ≡ f b l ch .tables) (k : Card) (l : List ℕ)
     (y : Turn f beside k l c) (room : 128 * c + 128 ≤ length l) where
-  comes-under : Under ed s c v (side (channelOf k c) l) → Under ed s c v (side (channelOf k c) (y .mid))
-  comes-under u = subst (Under ed s c v) (y .comes ed) (untimed-under ed s c v (side (channelOf k c) l) (y .before) (y .none) room u)
+  comes-under : (ed : Edition) → Under s c v (side (channelOf k c) l) → Under s c v (side (channelOf k c) (y .mid))
+  comes-under ed u = subst (Under s c v) (y .comes ed) (untimed-under s c v ed (side (channelOf k c) l) (y .before) (y .none) room u)
 
-  goes-under : length (f c (y .mid) (channelOf k c) .tables) ≡ length (y .mid) → (z : Side) → C.run ed c (f c (y .mid) (channelOf k c)) (y .after) ≡ z
-      → Under ed s c v (f c (y .mid) (channelOf k c)) → Under ed s c v z
-  goes-under e z g u = subst (Under ed s c v) g (untimed-under ed s c v _ (y .after) (y .none-after) (omega (arith, mid-length f beside k l c y)) u)
+  goes-under : (ed : Edition) → length (f c (y .mid) (channelOf k c) .tables) ≡ length (y .mid) → (z : Side) → C.run ed c (f c (y .mid) (channelOf k c)) (y .after) ≡ z
+      → Under s c v (f c (y .mid) (channelOf k c)) → Under s c v z
+  goes-under ed e z g u = subst (Under s c v) g (untimed-under s c v ed _ (y .after) (y .none-after) (omega (arith, mid-length f beside k l c y)) u)
 
-module _ (ed : Edition) (s : List ℕ) (c v : ℕ) (inside : c < 4) where
+module _ (s : List ℕ) (c v : ℕ) (inside : c < 4) where
   abbrev UnderIn : State → Type 0
-  UnderIn y = Under ed s c v (sideAt y c)
+  UnderIn y = Under s c v (sideAt y c)
 
   -- an accepted trigger, if channel c is so once it has come to it
   struck-so : (y : State) (level event : ℕ) → 512 ≤ length (y .tables)
-      → (let t = trigger-turn y level c inside in Under ed s c v (triggered (y .settings) (t .mid) c (channelOf (y .card) c) level)) → UnderIn (triggerOf y level event)
+      → (let t = trigger-turn y level c inside in Under s c v (triggered (y .settings) (t .mid) c (channelOf (y .card) c) level)) → UnderIn (triggerOf y level event)
   struck-so y level event room u =
       let t = trigger-turn y level c inside in
-      goes-under ed s c v _ _ (y .card) (y .tables) t (omega arith) (trigger-length (y .settings) (t .mid) c (channelOf (y .card) c) level) _ (trigger-goes y level event c t ed) u
+      let ed = y .card .edition in
+      goes-under s c v _ _ (y .card) (y .tables) t (omega arith) ed (trigger-length (y .settings) (t .mid) c (channelOf (y .card) c) level) _ (trigger-goes y level event c t ed) u
 
   -- one that does not load it
   struck-under : (y : State) (level event : ℕ) → 512 ≤ length (y .tables) → loadsAt (countdown (y .settings) c level) ≡ false → UnderIn y → UnderIn (triggerOf y level event)
   struck-under y level event room l u =
       let t = trigger-turn y level c inside in
       struck-so y level event room
-      (triggered-under ed s c v (y .settings) (side (channelOf (y .card) c) (t .mid)) level l (comes-under ed s c v _ _ (y .card) (y .tables) t (omega arith) u))
+      (triggered-under s c v (y .settings) (side (channelOf (y .card) c) (t .mid)) level l (comes-under s c v _ _ (y .card) (y .tables) t (omega arith) (y .card .edition) u))
 
   -- a tick, likewise
   ticked-so : (w : List ℕ) (y : State) → 512 ≤ length (y .tables)
-      → (let t = tick-turn w y c inside in Under ed s c v (tickOf (y .card .edition) (y .settings) w (t .mid) c (channelOf (y .card) c))) → UnderIn (advanced w y)
+      → (let t = tick-turn w y c inside in Under s c v (tickOf (y .card .edition) (y .settings) w (t .mid) c (channelOf (y .card) c))) → UnderIn (advanced w y)
   ticked-so w y room u =
       let t = tick-turn w y c inside in
-      goes-under ed s c v _ _ (y .card) (y .tables) t (omega arith) (tick-length (y .settings) (t .mid) c (channelOf (y .card) c) (y .card .edition) w) _ (tick-goes w y c t ed) u
+      let ed = y .card .edition in
+      goes-under s c v _ _ (y .card) (y .tables) t (omega arith) ed (tick-length (y .settings) (t .mid) c (channelOf (y .card) c) ed w) _ (tick-goes w y c t ed) u
 
-  module _ (fits : InRange ed s c v) where
-    module _ (w : List ℕ) (y : State) (own : y .card .edition ≡ ed) (h : Sound y) (u : UnderIn y) where
+  -- in range in both editions, since a fresh card of the other may come
+  module _ (fits : (ed : Edition) → InRange ed s c v) where
+    module _ (w : List ℕ) (y : State) (h : Sound y) (u : UnderIn y) where
+      abbrev ed : Edition
+      ed = y .card .edition
+
       abbrev ch : Channel
       ch = channelOf (y .card) c
 
       abbrev t : TickTurn w y c
       t = tick-turn w y c inside
 
-      mid : Under ed s c v (side ch (t .mid))
-      mid = comes-under ed s c v _ _ (y .card) (y .tables) t (omega (arith, h .tables .many)) u
+      mid : Under s c v (side ch (t .mid))
+      mid = comes-under s c v _ _ (y .card) (y .tables) t (omega (arith, h .tables .many)) ed u
 
       advanced-under : loadAmong (inTick w y c) ≡ false → UnderIn (advanced w y)
       advanced-under l =
           ticked-so w y (omega (arith, h .tables .many))
-          (subst (λ i. Under ed s c v (tickOf i (y .settings) w (t .mid) c ch)) (sym own)
-          (tick-under ed s c v fits (y .settings) w (side ch (t .mid)) mid (sym (tick-loads (y .card .edition) w (y .settings) (y .tables) c ch (ch .phase)) ∙ l)))
+          (tick-under s c v ed (fits ed) (y .settings) w (side ch (t .mid)) mid (sym (tick-loads ed w (y .settings) (y .tables) c ch (ch .phase)) ∙ l))
 
       advanced-in : In (inTick w y c)
-      advanced-in = subst (λ i. In (byTick i w (y .settings) (y .tables) c ch)) (sym own) (tick-told ed s c v fits (y .settings) w (sideAt y c) u)
+      advanced-in = tick-told s c v ed (fits ed) (y .settings) w (sideAt y c) u
 
       -- the turn comes over other tables, and tells the same
-      same-told : byTick (y .card .edition) w (y .settings) (t .mid) c ch ≡ inTick w y c
+      same-told : byTick ed w (y .settings) (t .mid) c ch ≡ inTick w y c
       same-told =
-          same-tick (y .card .edition) w (y .settings) (y .tables) (t .mid) c ch
-          (rw (t .comes (y .card .edition)) at (untimed-table (y .card .edition) c (sideAt y c) (t .before) (t .none) (omega (arith, h .tables .many))))
+          same-tick ed w (y .settings) (y .tables) (t .mid) c ch
+          (rw (t .comes ed) at (untimed-table ed c (sideAt y c) (t .before) (t .none) (omega (arith, h .tables .many))))
           (ch .phase) (h .card .channels c .phase)
 
       advanced-counted : Counted c w (inTick w y c) ch (channelOf (advanced w y .card) c)
       advanced-counted =
           subst (λ hs. Counted c w hs ch (channelOf (advanced w y .card) c)) same-told
-          (subst (λ k. Counted c w (byTick (y .card .edition) w (y .settings) (t .mid) c ch) ch k) (tick-same w y c t)
-          (subst (λ i. Counted c w (byTick i w (y .settings) (t .mid) c ch) ch (tickOf i (y .settings) w (t .mid) c ch .channel)) (sym own)
-          (tick-counted ed s c v fits (y .settings) w (side ch (t .mid)) mid)))
+          (subst (λ k. Counted c w (byTick ed w (y .settings) (t .mid) c ch) ch k) (tick-same w y c t)
+          (tick-counted s c v ed (fits ed) (y .settings) w (side ch (t .mid)) mid))
 
     -- ---- any act
 
-    act-in : (y : State) → y .card .edition ≡ ed → Sound y → UnderIn y → (z : Act) → In (happens c y z)
-    act-in y own h u (Tick w event) = in-append (inTick w y c) _ (advanced-in w y own h u) (trigger-in (triggerBy y (Tick w event)) (y .settings) c)
-    act-in y own h u (Write start count ws) =
+    act-in : (y : State) → Sound y → UnderIn y → (z : Act) → In (happens c y z)
+    act-in y h u (Tick w event) = in-append (inTick w y c) _ (advanced-in w y h u) (trigger-in (triggerBy y (Tick w event)) (y .settings) c)
+    act-in y h u (Write start count ws) =
         in-append (atTrigger y (Write start count ws) c) _ (trigger-in (triggerBy y (Write start count ws)) (y .settings) c) (words-in c start (wordsDone y start count ws))
-    act-in y own h u (Ask what) = refl
-    act-in y own h u (HandIn to ws) = refl
-    act-in y own h u Reset = refl
+    act-in y h u (Ask what) = refl
+    act-in y h u (HandIn to ws) = refl
+    act-in y h u (Renew how) = refl
 
-    act-under : (y : State) → y .card .edition ≡ ed → Sound y → UnderIn y → (z : Act) → loadAmong (happens c y z) ≡ false → UnderIn (act y z)
-    act-under y own h u (Tick w event) l = go (triggerBy y (Tick w event)) refl
+    act-under : (y : State) → Sound y → UnderIn y → (z : Act) → loadAmong (happens c y z) ≡ false → UnderIn (act y z)
+    act-under y h u (Tick w event) l = go (triggerBy y (Tick w event)) refl
       where
         two : (loadAmong (inTick w y c) ≡ false) × (loadAmong (atTrigger y (Tick w event) c) ≡ false)
         two = or-none _ _ (sym (load-append (inTick w y c) (atTrigger y (Tick w event) c)) ∙ l)
@@ -183,9 +186,9 @@ module _ (ed : Edition) (s : List ℕ) (c v : ℕ) (inside : c < 4) where
             rw (trigger-is y (Tick w event) level e)
             (struck-under (advanced w y) level event (omega (arith, advanced-room w y, h .tables .many))
             (ap (λ (z : List ℕ). loadsAt (countdown z c level)) (advanced-settings w y) ∙ sym (trigger-loads (y .settings) c level) ∙ (rw e at (two .1)))
-            (advanced-under w y own h u (two .0)))
-        go Nobody e = rw (quiet-tick w y event e) (advanced-under w y own h u (two .0))
-    act-under y own h u (Write start count ws) l = go (triggerBy y (Write start count ws)) refl
+            (advanced-under w y h u (two .0)))
+        go Nobody e = rw (quiet-tick w y event e) (advanced-under w y h u (two .0))
+    act-under y h u (Write start count ws) l = go (triggerBy y (Write start count ws)) refl
       where
         two : (loadAmong (atTrigger y (Write start count ws) c) ≡ false) × (loadAmong (byWords c start (wordsDone y start count ws)) ≡ false)
         two = or-none _ _ (sym (load-append (atTrigger y (Write start count ws) c) (byWords c start (wordsDone y start count ws))) ∙ l)
@@ -196,56 +199,56 @@ module _ (ed : Edition) (s : List ℕ) (c v : ℕ) (inside : c < 4) where
             (struck-under y level 0xFE (omega (arith, h .tables .many)) (sym (trigger-loads (y .settings) c level) ∙ (rw e at (two .0))) u)
         go Nobody e =
             let p = write-part c inside y start count ws (h .card .four) e in
-            subst (Under ed s c v) (p .runs ed) (untimed-under ed s c v (sideAt y c) (p .acts) (p .none) (omega (arith, h .tables .many)) u)
-    act-under y own h u (Ask what) l = u
-    act-under y own h u (HandIn to ws) l = u
-    act-under y own h u Reset l = resting (ap (λ (ch : Channel). ch .phase) (four-fresh (y .card .edition) c inside))
+            subst (Under s c v) (p .runs (y .card .edition)) (untimed-under s c v (y .card .edition) (sideAt y c) (p .acts) (p .none) (omega (arith, h .tables .many)) u)
+    act-under y h u (Ask what) l = u
+    act-under y h u (HandIn to ws) l = u
+    act-under y h u (Renew how) l = resting (ap (λ (ch : Channel). ch .phase) (four-fresh (editionBy how (y .card .edition)) c inside))
 
     -- until the next load
-    acts-in : (y : State) → y .card .edition ≡ ed → Sound y → UnderIn y → (ys : List Act) → Words16 ys → In (story c y ys)
-    acts-in y own h u [] w = refl
-    acts-in y own h u (z ∷ zs) w =
+    acts-in : (y : State) → Sound y → UnderIn y → (ys : List Act) → Words16 ys → In (story c y ys)
+    acts-in y h u [] w = refl
+    acts-in y h u (z ∷ zs) w =
         let r = one-sound y z zs w h in
-        go (loadAmong (happens c y z)) refl (λ l. acts-in (act y z) (act-edition y z ∙ own) (r .0) (act-under y own h u z l) zs (r .1))
+        go (loadAmong (happens c y z)) refl (λ l. acts-in (act y z) (r .0) (act-under y h u z l) zs (r .1))
       where
         go : (b : Bool) → loadAmong (happens c y z) ≡ b → (loadAmong (happens c y z) ≡ false → In (story c (act y z) zs)) → In (happens c y z ++ story c (act y z) zs)
-        go true q ih = in-load (happens c y z) _ q (act-in y own h u z)
-        go false q ih = in-append (happens c y z) _ (act-in y own h u z) (ih q)
+        go true q ih = in-load (happens c y z) _ q (act-in y h u z)
+        go false q ih = in-append (happens c y z) _ (act-in y h u z) (ih q)
 
-    acts-under : (y : State) → y .card .edition ≡ ed → Sound y → UnderIn y → (ys : List Act) → Words16 ys → loadAmong (story c y ys) ≡ false → Sound (acts y ys) × UnderIn (acts y ys)
-    acts-under y own h u [] w l = (h, u)
-    acts-under y own h u (z ∷ zs) w l =
+    acts-under : (y : State) → Sound y → UnderIn y → (ys : List Act) → Words16 ys → loadAmong (story c y ys) ≡ false → Sound (acts y ys) × UnderIn (acts y ys)
+    acts-under y h u [] w l = (h, u)
+    acts-under y h u (z ∷ zs) w l =
         let two = or-none _ _ (sym (load-append (happens c y z) (story c (act y z) zs)) ∙ l) in
         let r = one-sound y z zs w h in
-        acts-under (act y z) (act-edition y z ∙ own) (r .0) (act-under y own h u z (two .0)) zs (r .1) (two .1)
+        acts-under (act y z) (r .0) (act-under y h u z (two .0)) zs (r .1) (two .1)
 
 -- ---- the load
 
-module _ (ed : Edition) (c : ℕ) (inside : c < 4) where
+module _ (c : ℕ) (inside : c < 4) where
   -- at a trigger
   struck-load : (y : State) (level event : ℕ) → 512 ≤ length (y .tables) → loadsAt (countdown (y .settings) c level) ≡ true
-      → Under ed (y .settings) c level (sideAt (triggerOf y level event) c)
+      → Under (y .settings) c level (sideAt (triggerOf y level event) c)
   unfolding triggered
   struck-load y level event room l =
       let t = trigger-turn y level c inside in
-      struck-so ed (y .settings) c level inside y level event room
-      (rw l (load-under ed (y .settings) c level (side (channelOf (y .card) c) (t .mid)) (omega (arith, mid-length _ _ (y .card) (y .tables) c t))))
+      struck-so (y .settings) c level inside y level event room
+      (rw l (load-under (y .settings) c level (side (channelOf (y .card) c) (t .mid)) (omega (arith, mid-length _ _ (y .card) (y .tables) c t))))
 
   -- by counting
   counted-load : (w : List ℕ) (y : State) → 512 ≤ length (y .tables) → loadAmong (inTick w y c) ≡ true
-      → Under ed (y .settings) c (channelOf (y .card) c .level) (sideAt (advanced w y) c)
+      → Under (y .settings) c (channelOf (y .card) c .level) (sideAt (advanced w y) c)
   counted-load w y room l =
       let ch = channelOf (y .card) c in
       let t = tick-turn w y c inside in
-      ticked-so ed (y .settings) c (ch .level) inside w y room
+      ticked-so (y .settings) c (ch .level) inside w y room
       (rw (counts-load (y .card .edition) (y .settings) w (t .mid) c ch (sym (tick-loads (y .card .edition) w (y .settings) (y .tables) c ch (ch .phase)) ∙ l))
-      (load-under ed (y .settings) c (ch .level) (side ch (t .mid)) (omega (arith, mid-length _ _ (y .card) (y .tables) c t))))
+      (load-under (y .settings) c (ch .level) (side ch (t .mid)) (omega (arith, mid-length _ _ (y .card) (y .tables) c t))))
 
   -- the level of a load, and what it leaves
   record LoadOf (st : State) (x : Act) : Type 0 where
     level : ℕ
     small : level < 32
-    under : Under ed (st .settings) c level (sideAt (act st x) c)
+    under : Under (st .settings) c level (sideAt (act st x) c)
 
   trigger-small : (st : State) (x : Act) (level : ℕ) → triggerBy st x ≡ Level level → Sound (act st x) → level < 32
   trigger-small st x level e h =
@@ -278,7 +281,7 @@ module _ (ed : Edition) (c : ℕ) (inside : c < 4) where
                 small = h .card .channels c .level;
                 under =
                     rw (trigger-is st (Tick w event) level e)
-                    (struck-under ed (st .settings) c (channelOf (st .card) c .level) inside (advanced w st) level event (omega (arith, advanced-room w st, room))
+                    (struck-under (st .settings) c (channelOf (st .card) c .level) inside (advanced w st) level event (omega (arith, advanced-room w st, room))
                     (ap (λ (z : List ℕ). loadsAt (countdown z c level)) (advanced-settings w st) ∙ d)
                     (counted-load w st room (or-left _ _ q (rw e (trigger-loads (st .settings) c level ∙ d)))));
               }
@@ -301,7 +304,7 @@ module _ (ed : Edition) (c : ℕ) (inside : c < 4) where
       go Nobody e q = absurd (true≢false (sym (rw e at q)))
   load-of st h (Ask what) g l = absurd (true≢false (sym l))
   load-of st h (HandIn to ws) g l = absurd (true≢false (sym l))
-  load-of st h Reset g l = absurd (true≢false (sym l))
+  load-of st h (Renew how) g l = absurd (true≢false (sym l))
 
 -- ---- from the load on
 
@@ -320,14 +323,16 @@ module _ (c : ℕ) (st : State) (x : Act) (p : PassedLoad c st x) where
   sound : Sound (act st x)
   sound = one-sound st x [] (p .words) (p .sound) .0
 
-  abbrev from : LoadOf (st .card .edition) c (p .inside) st x
-  from = load-of (st .card .edition) c (p .inside) st (p .sound) x sound (p .loads)
+  abbrev from : LoadOf c (p .inside) st x
+  from = load-of c (p .inside) st (p .sound) x sound (p .loads)
 
-  fits : InRange (st .card .edition) (st .settings) c (from .level)
-  fits = verdict-right (st .card .edition) (st .settings) .passes (p .passed) c (from .level) (p .inside) (from .small)
+  -- the verdict is one for both editions
+  fits : (ed : Edition) → InRange ed (st .settings) c (from .level)
+  unfolding OneVerdict
+  fits ed = verdict-right ed (st .settings) .passes (one-verdict ed (st .card .edition) (st .settings) ∙ p .passed) c (from .level) (p .inside) (from .small)
 
   sums-in : (ys : List Act) → Words16 ys → In (story c (act st x) ys)
-  sums-in ys w = acts-in (st .card .edition) (st .settings) c (from .level) (p .inside) fits (act st x) (act-edition st x) sound (from .under) ys w
+  sums-in ys w = acts-in (st .settings) c (from .level) (p .inside) fits (act st x) sound (from .under) ys w
 
   module _ (ys : List Act) (words : Words16 ys) (none : loadAmong (story c (act st x) ys) ≡ false) (w : List ℕ) (event : ℕ) where
     abbrev y : State
@@ -335,8 +340,8 @@ module _ (c : ℕ) (st : State) (x : Act) (p : PassedLoad c st x) where
 
     moved : Counted c w (inTick w y c) (channelOf (y .card) c) (channelOf (advanced w y .card) c)
     moved =
-        let r = acts-under (st .card .edition) (st .settings) c (from .level) (p .inside) fits (act st x) (act-edition st x) sound (from .under) ys words none in
-        advanced-counted (st .card .edition) (st .settings) c (from .level) (p .inside) fits w y (acts-edition (act st x) ys ∙ act-edition st x) (r .0) (r .1)
+        let r = acts-under (st .settings) c (from .level) (p .inside) fits (act st x) sound (from .under) ys words none in
+        advanced-counted (st .settings) c (from .level) (p .inside) fits w y (r .0) (r .1)
 
     -- the event leaves what is counted
     event-keeps : Counted c w (inTick w y c) (channelOf (y .card) c) (channelOf (act y (Tick w event) .card) c)

@@ -27,7 +27,7 @@ use Rattle.card.specs.Active.{cause}
 use Rattle.card.specs.Trigger.{counted, struck, triggerOf}
 use Rattle.card.specs.Tick.{advanced}
 use Rattle.course.proofs.Copies.{choose}
-use Rattle.history.specs.History.{Act, Tick, Write, Ask, HandIn, Reset, wordsDone}
+use Rattle.history.specs.History.{Act, Tick, Write, Ask, HandIn, Renew, wordsDone}
 use Rattle.history.specs.Story.{Happening, Load, Sample, FreeSample, Output, Clear, Fresh, byRamp, byStart, inPhase, byTrigger, byWord, byWords, inTick, atTrigger}
 use Rattle.history.specs.Active.{loadAmong, loadsBy, loadsByCounting, loadsBefore, loadsAtTrigger}
 use Rattle.history.proofs.Cards.{count-keeps}
@@ -95,7 +95,7 @@ loads-told st (Write start count ws) =
     ∙ or-false (loadAmong (atTrigger st (Write start count ws) c)))
 loads-told st (Ask what) = refl
 loads-told st (HandIn to ws) = refl
-loads-told st Reset = refl
+loads-told st (Renew how) = refl
 
 -- ---- a channel's tick
 

@@ -21,7 +21,7 @@ use Rattle.card.specs.Tick.{advanced}
 use Rattle.card.specs.Reset.{cardReset, freshOf}
 use Rattle.course.proofs.Copies.{choose}
 use Rattle.course.proofs.Acts.{tick-level}
-use Rattle.history.specs.History.{Act, Tick, Write, Ask, HandIn, Reset, act, acts, readBack, triggerBy}
+use Rattle.history.specs.History.{Act, Tick, Write, Ask, HandIn, Renew, editionBy, act, acts, readBack, triggerBy}
 use Rattle.history.specs.Triggers.{eventBy}
 use Rattle.history.specs.Story.{Happening, Load, byRamp, byStart, inPhase, byTrigger, inTick, atTrigger}
 use Rattle.history.specs.Countdowns.{justBefore}
@@ -91,7 +91,7 @@ act-levels st x h = go (triggerBy st x) refl
     quiet (Write start count ws) e = write-levels st start count ws e h
     quiet (Ask what) e = h
     quiet (HandIn to ws) e = h
-    quiet Reset e = reset-levels (st .card .edition) (st .settings) (st .tables)
+    quiet (Renew how) e = reset-levels (editionBy how (st .card .edition)) (st .settings) (st .tables)
 
     go : (r : Holder) → triggerBy st x ≡ r → Levels (act st x)
     go (Level l) e = rw (trigger-is st x l e) (trigger-levels (justBefore st x) l (eventBy x))

@@ -21,7 +21,7 @@ use Rattle.card.specs.Reset.{settingsReset, freshOf}
 use Rattle.card.proofs.Ticks.{trigger-settings, tick-settings}
 use Rattle.transfer.specs.Word.{effectOf, readAt}
 use Rattle.transfer.specs.Transfer.{writeOf}
-use Rattle.history.specs.History.{Act, Tick, Write, Ask, HandIn, Reset, act, acts, readBack, wordsDone}
+use Rattle.history.specs.History.{Act, Tick, Write, Ask, HandIn, Renew, act, acts, readBack, wordsDone}
 use Rattle.history.specs.Effects.{Does, Keeps, Outputs, ClearsOverflow, ClearsCount, Erases, Idles, Triggers}
 use Rattle.history.specs.Settings.{isSlot, isScale, resetWord, wordLeft, leftAt, lastWord, SettingsKept}
 use Rattle.map.proofs.Room.{named-below}
@@ -141,7 +141,7 @@ module _ (b : ℕ) (setting : isSetting (registerOf b) ≡ true) where
       (write-left st start count ws l ∙ ap (leftAt b start (wordsDone st start count ws)) e)
   acts-left st (Ask what ∷ xs) w l e = acts-left st xs w l e
   acts-left st (HandIn to ws ∷ xs) w l e = acts-left st xs w l e
-  acts-left st (Reset ∷ xs) w l e = acts-left (act st Reset) xs (resetWord b) (reset-length (st .settings) ∙ l) (reset-left (st .settings) l)
+  acts-left st (Renew how ∷ xs) w l e = acts-left (act st (Renew how)) xs (resetWord b) (reset-length (st .settings) ∙ l) (reset-left (st .settings) l)
 
   pub setting-reads : (st : State) → readBack st b ≡ word (st .settings) b
   setting-reads st = go (kept (registerOf b) setting)

@@ -35,7 +35,7 @@ use Rattle.transfer.specs.declared.Effect.the-variants.{Keep, Output, Erase, No
 use Rattle.transfer.specs.Word.{effectOf, performOf}
 use Rattle.transfer.specs.Transfer.{processedOf, writeOf}
 use Rattle.course.proofs.Copies.{choose}
-use Rattle.history.specs.History.{Act, Tick, Write, Ask, HandIn, Reset, act, acts, Each, Words16}
+use Rattle.history.specs.History.{Act, Tick, Write, Ask, HandIn, Renew, editionBy, act, acts, Each, Words16}
 use Rattle.history.specs.Sound.{Tables, ChannelSound, CauseSound, Sound, Reachable}
 use Rattle.history.proofs.Addresses.{slot-register}
 use Rattle.history.proofs.Words.{Passed, set-word, stored, erased-words, reset-words}
@@ -315,7 +315,7 @@ one-sound st (Tick waves event) xs w h = (tick-sound-card waves st event h, w)
 one-sound st (Write start count ws) xs w h = (write-sound st start count ws (w .0) h, w .1)
 one-sound st (Ask what) xs w h = (h, w)
 one-sound st (HandIn to ws) xs w h = (h, w)
-one-sound st Reset xs w h = (fresh-sound (st .card .edition) (st .settings) (st .tables) (h .settings .many) (h .tables .many), w)
+one-sound st (Renew how) xs w h = (fresh-sound (editionBy how (st .card .edition)) (st .settings) (st .tables) (h .settings .many) (h .tables .many), w)
 
 acts-sound : (st : State) (xs : List Act) → Words16 xs → Sound st → Sound (acts st xs)
 acts-sound st [] w h = h

@@ -43,7 +43,7 @@ use Rattle.course.specs.Points.{SameTable}
 use Rattle.course.proofs.Acts.{untimed-table}
 use Rattle.course.proofs.Tables.{Placed, same-enter, same-next, same-sample}
 use Rattle.course.proofs.Walk.{placed-enter, placed-next}
-use Rattle.history.specs.History.{Act, Tick, Write, Ask, HandIn, Reset, act, acts, wordsDone, manualAmong, triggerBy, Words16}
+use Rattle.history.specs.History.{Act, Tick, Write, Ask, HandIn, Renew, editionBy, act, acts, wordsDone, manualAmong, triggerBy, Words16}
 use Rattle.history.specs.Effects.{Does, Keeps, Outputs, ClearsOverflow, ClearsCount, Erases, Idles, Triggers}
 use Rattle.history.specs.Sound.{Sound, PhaseSound, RampSound}
 use Rattle.history.specs.Story.{Happening, Load, Sample, FreeSample, Output, Clear, sample, byRamp, byStart, inPhase, byTick, byTrigger, byWord, byWords, inTick, happens, story, Told, fresh, ramped, sounds, sines, tell, told, Shows, ChannelsRight, AtRest}
@@ -388,7 +388,7 @@ module _ (c : ℕ) (inside : c < 4) where
       go Nobody e = write-goes st start count ws (h .card .four) e .right x r
   act-right st h (Ask what) x r = r
   act-right st h (HandIn to ws) x r = r
-  act-right st h Reset x r = reset-right (st .card .edition) (st .settings) (st .tables)
+  act-right st h (Renew how) x r = reset-right (editionBy how (st .card .edition)) (st .settings) (st .tables)
 
   acts-right : (st : State) → Sound st → (xs : List Act) → Words16 xs → (x : Told) → Right (channelOf (st .card) c) x
       → Right (channelOf (acts st xs .card) c) (told c x (story c st xs))

@@ -21,7 +21,7 @@ use Rattle.card.proofs.Ticks.{advanced-settings, trigger-settings}
 use Rattle.course.specs.Course as C
 use Rattle.course.proofs.Acts.{tick-elsewhere, trigger-elsewhere, run-length, held-next, waves-next}
 use Rattle.course.proofs.Appends.{run-append, ticks-append, waves-first, held-later, waves-later, before-later}
-use Rattle.history.specs.History.{Act, Tick, Write, Ask, HandIn, Reset, act, acts, triggerBy, Quiet, ticksIn, until, wavesOn}
+use Rattle.history.specs.History.{Act, Tick, Write, Ask, HandIn, Renew, act, acts, triggerBy, Quiet, ticksIn, until, wavesOn}
 use Rattle.history.specs.Triggers.{eventBy}
 use Rattle.history.specs.Countdowns.{justBefore}
 use Rattle.history.specs.Demand3.{sideAt}
@@ -216,7 +216,7 @@ module _ (ed : Edition) (c : ℕ) (inside : c < 4) where
   tracked st (HandIn to ws ∷ xs) own f q =
       let r = tracked st xs own f (q .1) in
       record { doings = r .doings; same-ticks = r .same-ticks; runs = r .runs; held = r .held; waves = r .waves; passes = r .passes; settled = r .settled }
-  tracked st (Reset ∷ xs) own f q = absurd (true≢false (q .0 .noReset))
+  tracked st (Renew how ∷ xs) own f q = absurd (true≢false (q .0 .noReset))
 
 -- ---- the trigger
 
@@ -235,7 +235,7 @@ trigger-is st (Tick waves event) level e = rw (advanced-settings waves st, e)
 trigger-is st (Write start count ws) level e = manual-write st start count ws level e
 trigger-is st (Ask what) level e = let z : _≡_ {A = ℕ} 0 1 = cc in absurd (omega arith)
 trigger-is st (HandIn to ws) level e = let z : _≡_ {A = ℕ} 0 1 = cc in absurd (omega arith)
-trigger-is st Reset level e = let z : _≡_ {A = ℕ} 0 1 = cc in absurd (omega arith)
+trigger-is st (Renew how) level e = let z : _≡_ {A = ℕ} 0 1 = cc in absurd (omega arith)
 
 pub struck-settings : (st : State) (x : Act) (level : ℕ) → triggerBy st x ≡ Level level → act st x .settings ≡ justBefore st x .settings
 struck-settings st x level e = ap (λ (z : State). z .settings) (trigger-is st x level e) ∙ trigger-settings (justBefore st x) level (eventBy x)
@@ -245,11 +245,11 @@ before-settings st (Tick waves event) = advanced-settings waves st
 before-settings st (Write start count ws) = refl
 before-settings st (Ask what) = refl
 before-settings st (HandIn to ws) = refl
-before-settings st Reset = refl
+before-settings st (Renew how) = refl
 
 pub before-room : (st : State) (x : Act) → length (justBefore st x .tables) ≡ length (st .tables)
 before-room st (Tick waves event) = advanced-room waves st
 before-room st (Write start count ws) = refl
 before-room st (Ask what) = refl
 before-room st (HandIn to ws) = refl
-before-room st Reset = refl
+before-room st (Renew how) = refl

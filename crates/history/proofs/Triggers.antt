@@ -14,7 +14,7 @@ use Rattle.slots.proofs.Holders.{level-held, nobody-if, holder-level}
 use Rattle.channel.specs.Channel.{word}
 use Rattle.card.specs.Card.{State}
 use Rattle.card.specs.Trigger.{acceptedOf}
-use Rattle.history.specs.History.{Act, Tick, Write, Ask, HandIn, Reset, readBack, wordsDone, manualAmong, triggerBy}
+use Rattle.history.specs.History.{Act, Tick, Write, Ask, HandIn, Renew, readBack, wordsDone, manualAmong, triggerBy}
 use Rattle.history.specs.Sound.{Sound}
 use Rattle.history.specs.Triggers.{Holds, ByClock, ByHand, Accepted, TriggerRule, ImageRight}
 use Rattle.history.proofs.Addresses.{clock-register, image-register}
@@ -78,7 +78,7 @@ only st (Tick waves event) level e = clock-only st event level e
 only st (Write start count ws) level e = hand-only start (wordsDone st start count ws) level e
 only st (Ask what) level e = let z : _≡_ {A = ℕ} 0 1 = cc in absurd (omega arith)
 only st (HandIn to ws) level e = let z : _≡_ {A = ℕ} 0 1 = cc in absurd (omega arith)
-only st Reset level e = let z : _≡_ {A = ℕ} 0 1 = cc in absurd (omega arith)
+only st (Renew how) level e = let z : _≡_ {A = ℕ} 0 1 = cc in absurd (omega arith)
 
 -- THE TRIGGERS OF A HISTORY ARE THOSE OF THE RULE
 pub trigger-rule : TriggerRule

@@ -68,7 +68,7 @@ not-load z c level l = let d = eqb-false (countdown z c level) lead l in omega (
 
 -- ---- one channel, from a load for level v under the settings s to the next
 
-module _ (ed : Edition) (s : List ℕ) (c v : ℕ) where
+module _ (s : List ℕ) (c v : ℕ) where
   abbrev pub T : ℕ
   T = totalFor s c v
 
@@ -77,7 +77,7 @@ module _ (ed : Edition) (s : List ℕ) (c v : ℕ) where
 
   -- the channel holds the copy
   abbrev pub Holds : Side → Type 0
-  Holds x = Held ed c v s 0 0 x
+  Holds x = Held c v s x
 
   -- a sample before the last
   pub record BeforeLast (p : Place) : Type 0 where
@@ -105,8 +105,8 @@ module _ (ed : Edition) (s : List ℕ) (c v : ℕ) where
   kept-under x y e f g (resting d) = resting (e ∙ d)
   kept-under x y e f g (waiting n d l) = waiting n (e ∙ d) l
 
-  pub untimed-under : (x : Side) (ys : List C.Act) → C.ticksIn ys ≡ 0 → 128 * c + 128 ≤ length (x .tables) → Under x → Under (C.run ed c x ys)
-  untimed-under x ys e h u = let r = untimed-ramp ed c x ys e in kept-under x (C.run ed c x ys) (r .0) (r .1) (untimed-table ed c x ys e h) u
+  pub untimed-under : (ed : Edition) (x : Side) (ys : List C.Act) → C.ticksIn ys ≡ 0 → 128 * c + 128 ≤ length (x .tables) → Under x → Under (C.run ed c x ys)
+  untimed-under ed x ys e h u = let r = untimed-ramp ed c x ys e in kept-under x (C.run ed c x ys) (r .0) (r .1) (untimed-table ed c x ys e h) u
 
   -- a trigger that does not load
   pub triggered-under : (z : List ℕ) (x : Side) (level : ℕ) → loadsAt (countdown z c level) ≡ false → Under x → Under (triggered z (x .tables) c (x .channel) level)
@@ -127,11 +127,11 @@ module _ (ed : Edition) (s : List ℕ) (c v : ℕ) where
   -- the load
   pub load-under : (x : Side) → 128 * c + 128 ≤ length (x .tables) → Under (load s (x .tables) c (x .channel) v)
   unfolding load
-  load-under x r = holding (loads ed c v s 0 0 x r) tt
+  load-under x r = holding (loads c v s x r) tt
 
-  -- ---- the samples, all of them in range
+  -- ---- the samples of a card of an edition, all of them in range
 
-  module _ (fits : InRange ed s c v) where
+  module _ (ed : Edition) (fits : InRange ed s c v) where
     sum-in : (x : Side) → Holds x → (k : ℕ) → k ≤ T → overflows (sampleAt ed (x .tables) (firstOf c) (x .channel .loaded) (spot k)) ≡ false
     sum-in x h k g =
         rw (h .loaded) (ap overflows (same-sample (x .tables) (firstOf c) s (tableFor s c v) (h .table) ed (loadedFor s c v) (spot k) (placed s (tableFor s c v) k)) ∙ fits k g)

@@ -25,7 +25,7 @@ use Rattle.card.specs.Card.{State, channelOf}
 use Rattle.card.specs.Reset.{wavesReset, freshOf}
 use Rattle.wavetable.specs.declared.Reply.the-variants.{Taken, Bad, Running}
 use Rattle.wavetable.specs.Hand.{Handed, handed, inWave, allInWave, badTable, handOf}
-use Rattle.history.specs.History.{Act, Tick, Write, Ask, HandIn, Reset, act, isReset, ticksIn, until, wavesOn}
+use Rattle.history.specs.History.{Act, Tick, Write, Ask, HandIn, Renew, act, isReset, ticksIn, until, wavesOn}
 use Rattle.history.specs.Waves.{GoodTable, HandedIn, WaveTables, wavesAfter, wavesIn, LentAsLeft, takenFor, tableBy, lastTable, RunsThrough, WavesRight}
 
 -- ---- the words of a table
@@ -173,7 +173,7 @@ shows-after c b st w (Tick waves event) t s = s
 shows-after c b st w (Write start count ws) t s = s
 shows-after c b st w (Ask what) t s = s
 shows-after c b st w (HandIn to ws) t s = hand-shows c b (st .card) w to ws t s
-shows-after c b st w Reset t s = reset-shows c b w (s .long)
+shows-after c b st w (Renew how) t s = reset-shows c b w (s .long)
 
 shows-in : (c : ℕ) → c < 4 → (st : State) (w : List ℕ) (xs : List Act) (t : List ℕ) → Shows c w t → Shows c (wavesIn st w xs) (lastTable c st w xs t)
 shows-in c b st w [] t s = s
@@ -191,7 +191,7 @@ inside-after c st w (Tick waves event) t p = p
 inside-after c st w (Write start count ws) t p = p
 inside-after c st w (Ask what) t p = p
 inside-after c st w (HandIn to ws) t p = hand-inside c (st .card) w to ws t p
-inside-after c st w Reset t p = zeros-inside
+inside-after c st w (Renew how) t p = zeros-inside
 
 inside-in : (c : ℕ) (st : State) (w : List ℕ) (xs : List Act) (t : List ℕ) → Inside t → Inside (lastTable c st w xs t)
 inside-in c st w [] t p = p
@@ -213,7 +213,7 @@ kept st w (Tick waves event) e c b g i h = refl
 kept st w (Write start count ws) e c b g i h = refl
 kept st w (Ask what) e c b g i h = refl
 kept st w (HandIn to ws) e c b g i h = hand-kept (st .card) w to ws c g i h
-kept st w Reset e c b g i h = absurd (true≢false e)
+kept st w (Renew how) e c b g i h = absurd (true≢false e)
 
 whole : (st : State) (w : List ℕ) (xs : List Act) (c : ℕ) → c < 4 → RunsThrough c st xs → (i : ℕ) → i < entries
     → getD (wavesIn st w xs) (waveOf c + i) 0 ≡ getD w (waveOf c + i) 0
@@ -237,7 +237,7 @@ read st w z (Tick waves event ∷ xs) h (suc n) k = read (act st (Tick waves eve
 read st w z (Write start count ws ∷ xs) h n k = read (act st (Write start count ws)) w z xs h n k
 read st w z (Ask what ∷ xs) h n k = read st w z xs h n k
 read st w z (HandIn to ws ∷ xs) h n k = read st (wavesAfter st w (HandIn to ws)) z xs h n k
-read st w z (Reset ∷ xs) h n k = read (act st Reset) (wavesAfter st w Reset) z xs h n k
+read st w z (Renew how ∷ xs) h n k = read (act st (Renew how)) (wavesAfter st w (Renew how)) z xs h n k
 
 pub wave-tables : WaveTables
 wave-tables = record { answered = answered; good = good; good-only = good-only }

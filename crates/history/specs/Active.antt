@@ -15,7 +15,7 @@ use Rattle.card.specs.Card.{State, onSome}
 use Rattle.card.specs.Active.{cause}
 use Rattle.card.specs.Tick.{advanced}
 use Rattle.card.specs.Reset.{freshOf}
-use Rattle.history.specs.History.{Act, Tick, Write, Ask, HandIn, Reset, act, acts, readBack, triggerBy, Quiet, ticksIn}
+use Rattle.history.specs.History.{Act, Tick, Write, Ask, HandIn, Renew, act, acts, readBack, triggerBy, Quiet, ticksIn}
 use Rattle.history.specs.Triggers.{eventBy}
 use Rattle.history.specs.Story.{Happening, Load, Sample, FreeSample, Output, Clear, Fresh, inTick, atTrigger, happens}
 use Rattle.history.specs.Countdowns.{justBefore}
@@ -50,7 +50,7 @@ loadsBefore st (Tick waves event) = loadsByCounting waves st
 loadsBefore st (Write start count ws) = false
 loadsBefore st (Ask what) = false
 loadsBefore st (HandIn to ws) = false
-loadsBefore st Reset = false
+loadsBefore st (Renew how) = false
 
 -- some channel loads at the trigger itself
 abbrev pub loadsAtTrigger : State → Act → Bool
@@ -78,7 +78,7 @@ activeAfter Nobody (Tick waves event) loaded old = old
 activeAfter Nobody (Write start count ws) loaded old = old
 activeAfter Nobody (Ask what) loaded old = old
 activeAfter Nobody (HandIn to ws) loaded old = old
-activeAfter Nobody Reset loaded old = atReset
+activeAfter Nobody (Renew how) loaded old = atReset
 
 -- the last accepted trigger after which some channel has loaded; `old` where there is none
 abbrev pub lastLoaded : State → List Act → Cause → Cause

@@ -13,7 +13,7 @@ use Rattle.channel.specs.Channel.{firstOf, lead, toStart, rampOf, countdown}
 use Rattle.card.specs.Card.{State, channelOf}
 use Rattle.card.specs.Tick.{advanced}
 use Rattle.course.specs.Points.{SameTable}
-use Rattle.history.specs.History.{Act, Tick, Write, Ask, HandIn, Reset, act, triggerBy}
+use Rattle.history.specs.History.{Act, Tick, Write, Ask, HandIn, Renew, act, triggerBy}
 use Rattle.history.specs.Sound.{Sound}
 
 -- ---- the countdown
@@ -24,7 +24,7 @@ justBefore st (Tick waves event) = advanced waves st
 justBefore st (Write start count ws) = st
 justBefore st (Ask what) = st
 justBefore st (HandIn to ws) = st
-justBefore st Reset = st
+justBefore st (Renew how) = st
 
 -- 'On each channel, enabled or not, the countdown is set anew to that channel's delay for L, at least 10.'
 unfoldable pub CountdownsSet : Type 0

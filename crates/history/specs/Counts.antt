@@ -9,7 +9,7 @@ use Rattle.slots.specs.declared.Holder.{Holder}
 use Rattle.slots.specs.declared.Holder.the-variants.{Level, Nobody}
 use Rattle.card.specs.Card.{State}
 use Rattle.card.specs.Reset.{freshOf}
-use Rattle.history.specs.History.{Act, Tick, Write, Ask, HandIn, Reset, act, acts, readBack, wordsDone, triggerBy}
+use Rattle.history.specs.History.{Act, Tick, Write, Ask, HandIn, Renew, act, acts, readBack, wordsDone, triggerBy}
 
 -- one of the words done from address a on is done at address b
 abbrev pub doesAt : ℕ → ℕ → List ℕ → Bool
@@ -22,7 +22,7 @@ clears st level (Tick waves event) = false
 clears st level (Write start count ws) = doesAt (0x4220 + level) start (wordsDone st start count ws)
 clears st level (Ask what) = false
 clears st level (HandIn to ws) = false
-clears st level Reset = true
+clears st level (Renew how) = true
 
 -- n triggers of a level before an act, which is a trigger, or clears the count, or neither
 abbrev pub tally : Holder → Bool → ℕ → ℕ → ℕ

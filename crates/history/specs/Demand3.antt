@@ -19,7 +19,7 @@ sideAt st c = side (channelOf (st .card) c) (st .tables)
 -- In any state st, whose loaded tables have room for four channels, as every call's have by type, the act x is an accepted trigger of
 -- a level. After it come the acts xs and then a tick with an event and these wave tables, no trigger accepted and no reset among them.
 -- On each channel c the countdown d is the delay held at the trigger, at least 10. The load is of the settings held on tick d − 10, and A00
--- is looked at on tick d. Sums are rounded as the card's own edition has it, which no act changes.
+-- is looked at on tick d. Sums are rounded as the card's own edition has it; none of these acts changes it.
 unfoldable pub Demand3 : Type 0
 Demand3 =
     (st : State) → 512 ≤ length (st .tables)

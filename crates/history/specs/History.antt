@@ -1,16 +1,17 @@
--- A history of the card: ticks with their events, transfers, saves, checks, wave tables handed in and resets, one after the other.
+-- A history of the card: ticks with their events, transfers, saves, checks, wave tables handed in, resets and fresh cards, one after the other.
 use mathlib.Core.Path.{_≡_}
 use mathlib.Core.Bool.{Bool, true, false, cond}
 use mathlib.Core.List.{List, [], _∷_}
 use Prim.Native.Nat.{ℕ, zero, suc, _+_, _<_}
 use lib.Dec.{eqb}
 use lib.ListN.{take}
+use Rattle.sum.specs.declared.Edition.{Edition}
 use Rattle.slots.specs.declared.Holder.{Holder}
 use Rattle.slots.specs.declared.Holder.the-variants.{Level, Nobody}
 use Rattle.card.specs.Card.{State}
 use Rattle.card.specs.Trigger.{acceptedOf}
 use Rattle.card.specs.Tick.{tickWith}
-use Rattle.card.specs.Reset.{resetOf}
+use Rattle.card.specs.Reset.{freshOf}
 use Rattle.map.specs.Map.{registerOf}
 use Rattle.transfer.specs.Word.{effectOf, performOf, readWord}
 use Rattle.transfer.specs.Transfer.{processedOf, writeOf}
@@ -24,6 +25,12 @@ pub data Question : Type 0 where
   -- whether they keep the profile
   Check : Question
 
+-- what makes the card fresh
+pub data Renewal : Type 0 where
+  -- a fresh card of an edition, in the place of the one before
+  FreshCard : Edition → Renewal
+  Reset : Renewal
+
 pub data Act : Type 0 where
   -- a tick with the wave tables lent to it, and its event, 0xFE if there is none
   Tick : List ℕ → ℕ → Act
@@ -32,7 +39,12 @@ pub data Act : Type 0 where
   Ask : Question → Act
   -- a wave table for a channel: its words change no part of the state, only the wave tables beside it (`specs/Waves`)
   HandIn : ℕ → List ℕ → Act
-  Reset : Act
+  Renew : Renewal → Act
+
+-- 'The edition is chosen with the fresh card and survives a reset'
+abbrev pub editionBy : Renewal → Edition → Edition
+editionBy (FreshCard edition) before = edition
+editionBy Reset before = before
 
 abbrev pub act : State → Act → State
 act st (Tick waves event) = tickWith waves st event
@@ -40,7 +52,7 @@ act st (Write start count ws) = writeOf st start count ws .state
 -- a read 'has no other effect': `readOf` answers with words alone, `saveOf` with bytes alone, and `verdictOf` with a verdict
 act st (Ask what) = st
 act st (HandIn to ws) = st
-act st Reset = resetOf st
+act st (Renew how) = freshOf (editionBy how (st .card .edition)) (st .settings) (st .tables)
 
 abbrev pub acts : State → List Act → State
 acts st [] = st
@@ -67,7 +79,7 @@ Words16 (Tick waves event ∷ xs) = Words16 xs
 Words16 (Write start count ws ∷ xs) = Each (λ v. v < 65536) ws × Words16 xs
 Words16 (Ask what ∷ xs) = Words16 xs
 Words16 (HandIn to ws ∷ xs) = Words16 xs
-Words16 (Reset ∷ xs) = Words16 xs
+Words16 (Renew how ∷ xs) = Words16 xs
 
 -- ---- the words of a write
 
@@ -93,14 +105,15 @@ triggerBy st (Tick waves event) = acceptedOf (st .settings) event
 triggerBy st (Write start count ws) = manualAmong start (wordsDone st start count ws)
 triggerBy st (Ask what) = Nobody
 triggerBy st (HandIn to ws) = Nobody
-triggerBy st Reset = Nobody
+triggerBy st (Renew how) = Nobody
 
+-- a reset, or a fresh card in its place
 abbrev pub isReset : Act → Bool
 isReset (Tick waves event) = false
 isReset (Write start count ws) = false
 isReset (Ask what) = false
 isReset (HandIn to ws) = false
-isReset Reset = true
+isReset (Renew how) = true
 
 -- 'with no trigger accepted after it and no reset'
 pub record Calm (st : State) (x : Act) : Type 0 where
@@ -119,7 +132,7 @@ ticksIn (Tick waves event ∷ xs) = suc (ticksIn xs)
 ticksIn (Write start count ws ∷ xs) = ticksIn xs
 ticksIn (Ask what ∷ xs) = ticksIn xs
 ticksIn (HandIn to ws ∷ xs) = ticksIn xs
-ticksIn (Reset ∷ xs) = ticksIn xs
+ticksIn (Renew how ∷ xs) = ticksIn xs
 
 -- the acts before the n-th tick; none before the 0-th, which is the trigger
 abbrev pub until : ℕ → List Act → List Act
@@ -130,7 +143,7 @@ until (suc (suc n)) (Tick waves event ∷ xs) = Tick waves event ∷ until (suc 
 until (suc n) (Write start count ws ∷ xs) = Write start count ws ∷ until (suc n) xs
 until (suc n) (Ask what ∷ xs) = Ask what ∷ until (suc n) xs
 until (suc n) (HandIn to ws ∷ xs) = HandIn to ws ∷ until (suc n) xs
-until (suc n) (Reset ∷ xs) = Reset ∷ until (suc n) xs
+until (suc n) (Renew how ∷ xs) = Renew how ∷ until (suc n) xs
 
 -- the wave tables of the n-th tick; z, those of the tick that follows the acts, where they have none
 abbrev pub wavesOn : List ℕ → ℕ → List Act → List ℕ
@@ -141,4 +154,4 @@ wavesOn z (suc (suc n)) (Tick waves event ∷ xs) = wavesOn z (suc n) xs
 wavesOn z (suc n) (Write start count ws ∷ xs) = wavesOn z (suc n) xs
 wavesOn z (suc n) (Ask what ∷ xs) = wavesOn z (suc n) xs
 wavesOn z (suc n) (HandIn to ws ∷ xs) = wavesOn z (suc n) xs
-wavesOn z (suc n) (Reset ∷ xs) = wavesOn z (suc n) xs
+wavesOn z (suc n) (Renew how ∷ xs) = wavesOn z (suc n) xs

@@ -61,8 +61,8 @@ abbrev pub NoSumCounted : ℕ → List ℕ → State → State → Type 0
 NoSumCounted c w y z = (readBack z (base c + 0xA39) ≡ readBack y (base c + 0xA39)) ⊎ ProductCounted c w y z
 
 pub record NeverOut : Type 0 where
-  -- whatever acts ys come after such a load, writes, triggers and resets among them: until the next load no sum is out of range, in sine mode
-  -- no amplitude's
+  -- whatever acts ys come after such a load, writes, triggers, resets and fresh cards of either edition among them: until the next load no
+  -- sum is out of range, in sine mode no amplitude's
   pub sums : (c : ℕ) (st : State) (x : Act) → PassedLoad c st x → (ys : List Act) → Words16 ys → outBeforeLoad (story c (act st x) ys) ≡ false
   -- so A39 does not grow by a ramp sum, over any tick that comes before the next load or with it
   pub count : (c : ℕ) (st : State) (x : Act) → PassedLoad c st x → (ys : List Act) → Words16 ys → loadAmong (story c (act st x) ys) ≡ false

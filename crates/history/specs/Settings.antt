@@ -10,7 +10,7 @@ use Rattle.map.specs.Map.{registerOf}
 use Rattle.map.specs.Settings.{isSetting}
 use Rattle.card.specs.Card.{State}
 use Rattle.card.specs.Reset.{freshOf}
-use Rattle.history.specs.History.{Act, Tick, Write, Ask, HandIn, Reset, act, acts, readBack, wordsDone}
+use Rattle.history.specs.History.{Act, Tick, Write, Ask, HandIn, Renew, act, acts, readBack, wordsDone}
 
 -- 'trigger slots', 'scale factors'
 abbrev pub isSlot : ℕ → Bool
@@ -37,7 +37,7 @@ leftBy b st (Tick waves event) w = w
 leftBy b st (Write start count ws) w = leftAt b start (wordsDone st start count ws) w
 leftBy b st (Ask what) w = w
 leftBy b st (HandIn to ws) w = w
-leftBy b st Reset w = resetWord b
+leftBy b st (Renew how) w = resetWord b
 
 -- the last word done at b, or what an erase or a reset left there after it; w before the acts
 abbrev pub lastWord : ℕ → State → List Act → ℕ → ℕ

@@ -25,7 +25,7 @@ use Rattle.channel.specs.Signal.{counterNext, counterAt, overflows}
 use Rattle.channel.specs.Channel.{word, firstOf, loadsAt, loadedFor, countdown, noTone}
 use Rattle.card.specs.Card.{State, channelOf}
 use Rattle.card.specs.Reset.{freshOf}
-use Rattle.history.specs.History.{Act, Tick, Write, Ask, HandIn, Reset, act, acts, readBack, wordsDone, triggerBy, Words16}
+use Rattle.history.specs.History.{Act, Tick, Write, Ask, HandIn, Renew, act, acts, readBack, wordsDone, triggerBy, Words16}
 
 -- ---- what can happen on a channel
 
@@ -39,7 +39,7 @@ pub data Happening : Type 0 where
   -- a word is done at A04, or at A39
   Output : ℕ → Happening
   Clear : Happening
-  -- a reset
+  -- a reset, or a fresh card in its place
   Fresh : Happening
 
 -- ---- a tick with the wave tables w: what happens on channel c of a card of an edition, which holds ch, under the settings s and the loaded
@@ -97,7 +97,7 @@ happens c st (Tick waves event) = inTick waves st c ++ atTrigger st (Tick waves 
 happens c st (Write start count ws) = atTrigger st (Write start count ws) c ++ byWords c start (wordsDone st start count ws)
 happens c st (Ask what) = []
 happens c st (HandIn to ws) = []
-happens c st Reset = Fresh ∷ []
+happens c st (Renew how) = Fresh ∷ []
 
 -- the story of channel c in a history
 abbrev pub story : ℕ → State → List Act → List Happening

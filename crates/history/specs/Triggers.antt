@@ -6,7 +6,7 @@ use lib.ListN.{length, getD}
 use Rattle.slots.specs.declared.Holder.the-variants.{Level}
 use Rattle.slots.specs.Slots.{slotOf, levelOf}
 use Rattle.card.specs.Card.{State}
-use Rattle.history.specs.History.{Act, Tick, Write, Ask, HandIn, Reset, readBack, wordsDone, triggerBy}
+use Rattle.history.specs.History.{Act, Tick, Write, Ask, HandIn, Renew, readBack, wordsDone, triggerBy}
 use Rattle.history.specs.Sound.{Sound}
 
 -- ---- the rule
@@ -36,7 +36,7 @@ Accepted st (Tick waves event) level = ByClock st event level
 Accepted st (Write start count ws) level = ByHand start (wordsDone st start count ws) level
 Accepted st (Ask what) level = ⊥
 Accepted st (HandIn to ws) level = ⊥
-Accepted st Reset level = ⊥
+Accepted st (Renew how) level = ⊥
 
 -- the triggers of a history are exactly those of the rule, whatever the channels are doing
 pub record TriggerRule : Type 0 where
@@ -49,7 +49,7 @@ eventBy (Tick waves event) = event
 eventBy (Write start count ws) = 0xFE
 eventBy (Ask what) = 0xFE
 eventBy (HandIn to ws) = 0xFE
-eventBy Reset = 0xFE
+eventBy (Renew how) = 0xFE
 
 -- ---- the event image
 

@@ -17,7 +17,7 @@ use Rattle.card.specs.Reset.{wavesReset, freshOf}
 use Rattle.wavetable.specs.declared.Reply.{Reply}
 use Rattle.wavetable.specs.declared.Reply.the-variants.{Taken, Bad, Running}
 use Rattle.wavetable.specs.Hand.{Handed, badTable, handOf, replyNumber}
-use Rattle.history.specs.History.{Act, Tick, Write, Ask, HandIn, Reset, act, isReset, ticksIn, until, wavesOn}
+use Rattle.history.specs.History.{Act, Tick, Write, Ask, HandIn, Renew, act, isReset, ticksIn, until, wavesOn}
 use Rattle.history.specs.Numbers.{case, first}
 
 -- ---- one wave table handed in: 'first 9, for a channel above 3, a wrong length or a word out of range, then 8; neither changes anything'
@@ -51,7 +51,7 @@ wavesAfter st w (Tick waves event) = w
 wavesAfter st w (Write start count ws) = w
 wavesAfter st w (Ask what) = w
 wavesAfter st w (HandIn to ws) = handOf (st .card) w to ws .waves
-wavesAfter st w Reset = wavesReset w
+wavesAfter st w (Renew how) = wavesReset w
 
 abbrev pub wavesIn : State → List ℕ → List Act → List ℕ
 wavesIn st w [] = w
@@ -64,7 +64,7 @@ LentAsLeft st w (Tick waves event ∷ xs) = (waves ≡ w) × LentAsLeft (act st 
 LentAsLeft st w (Write start count ws ∷ xs) = LentAsLeft (act st (Write start count ws)) w xs
 LentAsLeft st w (Ask what ∷ xs) = LentAsLeft st w xs
 LentAsLeft st w (HandIn to ws ∷ xs) = LentAsLeft st (wavesAfter st w (HandIn to ws)) xs
-LentAsLeft st w (Reset ∷ xs) = LentAsLeft (act st Reset) (wavesAfter st w Reset) xs
+LentAsLeft st w (Renew how ∷ xs) = LentAsLeft (act st (Renew how)) (wavesAfter st w (Renew how)) xs
 
 -- channel c's last wave table: a taken one, zeros after a reset, t before the acts
 abbrev pub takenFor : ℕ → ℕ → List ℕ → Reply → List ℕ → List ℕ
@@ -77,7 +77,7 @@ tableBy c st w (Tick waves event) t = t
 tableBy c st w (Write start count ws) t = t
 tableBy c st w (Ask what) t = t
 tableBy c st w (HandIn to ws) t = takenFor c to ws (handOf (st .card) w to ws .reply) t
-tableBy c st w Reset t = replicate entries 0
+tableBy c st w (Renew how) t = replicate entries 0
 
 abbrev pub lastTable : ℕ → State → List ℕ → List Act → List ℕ → List ℕ
 lastTable c st w [] t = t

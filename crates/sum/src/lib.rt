@@ -46,7 +46,7 @@ pub fn sample(
     settle(total(edition, scale, from, to, step, left, offset))
 }
 
-// The sum of that sample, before its range is checked.
+// The sum of that sample, before its range is checked. At an end point f is whole, and no edition cuts it.
 pub fn total(
     edition: Edition,
     scale: u16,
@@ -61,7 +61,7 @@ pub fn total(
     let d = step.0;
     let m = left.0;
     if d == 0 {
-        return rounded(edition, scale, number(from), 1, offset);
+        return raised(scale, number(from), 1, offset);
     }
     rounded(edition, scale, rise(from, to, d, m), d, offset)
 }

@@ -1,7 +1,7 @@
 -- `sum::total` meets its contract: at an end point, and along a segment. Assumes nothing.
 use borrow.Author.Needs.{needs}
 use borrow.Author.Tests.{eq-eqb, ne-eqb}
-use mathlib.Core.Path.{_≡_, _∙_}
+use mathlib.Core.Path.{_≡_, sym, _∙_}
 use Prim.Native.Nat.{_≤_, _<_, _^_}
 use native.Mathlib.Nat.{le-trans}
 use native.Mathlib.Omega.{arith}
@@ -13,6 +13,7 @@ use Rattle.word.specs.Word.{signedOf}
 use Rattle.word.proofs.Sizes.{back, kept}
 use Rattle.word.proofs.Number.{size}
 use Rattle.sum.specs.Fraction.{above}
+use Rattle.sum.proofs.Samples.{at-whole}
 use Rattle.sum.proofs.Machine.{size-above}
 use Rattle.sum.proofs.total.Statement.{statement}
 use Rattle.sum.proofs.total.Tie as tie
@@ -46,22 +47,25 @@ module _ (c : tie.After-rise) where
 number-requires : tie.Need-number-requires
 number-requires c κs = search needs
 
-rounded-requires : tie.Need-rounded-requires
-rounded-requires c κs = rw (point-is c) (le-trans (point-size c) (lit≤ tt), lit≤ tt)
+raised-requires : tie.Need-raised-requires
+raised-requires c κs = rw (point-is c) (le-trans (point-size c) (lit≤ tt), lit≤ tt)
 
 rise-requires : tie.Need-rise-requires
 rise-requires c κs = search needs
 
-rounded-requires-2 : tie.Need-rounded-requires-2
-rounded-requires-2 c κs = rw (rise-is c) (rise-size c, omega arith)
+rounded-requires : tie.Need-rounded-requires
+rounded-requires c κs = rw (rise-is c) (rise-size c, omega arith)
 
 returns : tie.Need-returns
-returns c = kept w64 _ (c .rounded .ok) ∙ c .rounded .ensures ∙ rw (point-is (c .before), eq-eqb _ _ (c .before .before .if1 .taken))
+returns c =
+    let a = c .before .before .before .args in
+    kept w64 _ (c .raised .ok) ∙ c .raised .ensures
+    ∙ rw (point-is (c .before), eq-eqb _ _ (c .before .before .if1 .taken)) (sym (at-whole (a .edition) (signedOf (a .scale)) (signedOf (a .offset)) (signedOf (a .from))))
 
 returns-2 : tie.Need-returns-2
-returns-2 c = kept w64 _ (c .rounded2 .ok) ∙ c .rounded2 .ensures ∙ rw (rise-is (c .before), ne-eqb _ _ (c .before .before .if1 .left))
+returns-2 c = kept w64 _ (c .rounded .ok) ∙ c .rounded .ensures ∙ rw (rise-is (c .before), ne-eqb _ _ (c .before .before .if1 .left))
 
 pub total-spec : {M : Type 1} → statement M
 total-spec =
     tie.close
-    (tie.spec number-requires rounded-requires returns rise-requires rounded-requires-2 returns-2)
+    (tie.spec number-requires raised-requires returns rise-requires rounded-requires returns-2)
