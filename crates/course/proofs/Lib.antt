@@ -9,5 +9,6 @@ pub mod Course
 pub mod Follows
 pub mod Outputs
 pub mod Plain
+pub mod Editions
 pub mod Ramps
 pub mod Appends

@@ -3,4 +3,5 @@ pub mod Course
 pub mod Follows
 pub mod Outputs
 pub mod Plain
+pub mod Editions
 pub mod Ramps
