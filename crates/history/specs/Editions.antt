@@ -4,7 +4,7 @@ use mathlib.Core.List.{List, [], _∷_}
 use Rattle.sum.specs.declared.Edition.{Edition}
 use Rattle.card.specs.Card.{State}
 use Rattle.card.specs.Reset.{freshOf, resetOf}
-use Rattle.history.specs.History.{Renewal, FreshCard, Reset, Act, Tick, Write, Ask, HandIn, Renew, editionBy, act, acts}
+use Rattle.history.specs.History.{FreshCard, Reset, Act, Tick, Write, Ask, HandIn, Renew, editionBy, act, acts}
 
 -- the edition that an act leaves, `before` being the one before it
 abbrev pub editionAfter : Act → Edition → Edition
