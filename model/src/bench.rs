@@ -4,8 +4,8 @@ use std::io::{self, Write};
 
 use crate::card::Card;
 use crate::edition::Edition;
-use crate::line::{self, field, fields, put_transfer};
-use crate::map::Number;
+use crate::line::{self, field, fields, put_transfer, put_words};
+use crate::map::{Answer, Number};
 use crate::panel::{self, Plotted, Reading};
 use crate::profile::{self, Break};
 use crate::saved;
@@ -163,14 +163,14 @@ impl Frame {
                 start,
                 count,
                 slice,
-            } => put_transfer(out, 0x91, card.write(start, count, &slice), &[]),
+            } => put_stopped(out, 0x91, card.write(start, count, &slice), &[]),
             Frame::Read {
                 start,
                 count,
                 mut slice,
             } => {
                 let done = card.read(start, count, &mut slice);
-                put_transfer(out, 0x92, done, &slice)
+                put_stopped(out, 0x92, done, &slice)
             }
             Frame::Save { mut buffer } => put_saved(out, saved::save(card, &mut buffer), &buffer),
             Frame::Check => put_checked(out, profile::check(card)),
@@ -190,6 +190,14 @@ impl Frame {
             Frame::Panel { address, word } => put_reading(out, address, word),
         }
     }
+}
+
+/// The answer to a transfer by a slice: where it stopped, and the words that
+/// the answer shows.
+fn put_stopped(out: &mut impl Write, kind: u8, done: Answer, words: &[u16]) -> io::Result<()> {
+    put_transfer(out, kind, done)?;
+    write!(out, "{:04X}", done.address)?;
+    put_words(out, words)
 }
 
 /// The answer to a save: number, bytes written and the whole buffer's sum.
@@ -270,32 +278,66 @@ mod tests {
     #[test]
     fn writes_by_count_and_slice() {
         for (line, answer) in [
-            ("1100800000", "91010000"),
-            ("1100800001", "91010000"),
-            ("1100800001ABCD", "91000001"),
-            ("1100800001ABCDABCD", "91000001"),
-            ("1100800003ABCDABCD", "91010000"),
-            ("110080FFFFABCD", "91010000"),
-            ("1108200001ABCD", "91020000"),
-            ("11007F0001ABCD", "91050000"),
+            ("1100800000", "910100000080"),
+            ("1100800001", "910100000080"),
+            ("1100800001ABCD", "910000010081"),
+            ("1100800001ABCDABCD", "910000010081"),
+            ("1100800003ABCDABCD", "910100000080"),
+            ("110080FFFFABCD", "910100000080"),
+            ("11FFFF0000", "91010000FFFF"),
+            ("11FFFF0001ABCD", "91020000FFFF"),
+            ("1108200001ABCD", "910200000820"),
+            ("1142100001ABCD", "910300004210"),
+            ("11423F0001ABCD", "910000014240"),
+            ("11423E0003ABCDABCDABCD", "910400024240"),
+            ("11007F0001ABCD", "91050000007F"),
+            ("1138400003001F002000FF", "910600013841"),
+            ("11401F000200100010", "910700014020"),
         ] {
             assert_eq!(answers(line), format!("{answer}\n"), "{line}");
         }
         let one = answers("1100800001ABCDABCD\n0200800002");
-        assert_eq!(one, "91000001\n82000002ABCD0000\n");
+        assert_eq!(one, "910000010081\n82000002ABCD0000\n");
     }
 
     #[test]
     fn the_longest_write() {
-        assert_eq!(answers(&long_write("0780", 4096)), "91000780\n");
-        assert_eq!(answers(&long_write("0781", 4096)), "91040780\n");
-        assert_eq!(answers(&long_write("1000", 4096)), "91040780\n");
-        assert_eq!(answers(&long_write("1001", 4096)), "91010000\n");
+        assert_eq!(answers(&long_write("0780", 4096)), "910007800800\n");
+        assert_eq!(answers(&long_write("0781", 4096)), "910407800800\n");
+        assert_eq!(answers(&long_write("1000", 4096)), "910407800800\n");
+        assert_eq!(answers(&long_write("1001", 4096)), "910100000080\n");
         assert_eq!(long_write("0780", 4096).len(), LONGEST);
         assert_eq!(LONGEST, 16_394);
         for longer in ["0", "0007", "\r", " "] {
             let line = long_write("0780", 4096) + longer;
             assert_eq!(answers(&line), "FF\n", "{longer:?}");
+        }
+    }
+
+    /// A write to A04 by a slice says where it was refused, and is then taken.
+    #[test]
+    fn a_write_while_a_ramp_runs() {
+        let write = "110A0400010007\n";
+        let running = format!("{}0142020001\n03000A\n{write}", one_point(5));
+        let given = answers(&format!("{running}010A010000\n0142020001\n{write}"));
+        let given: Vec<&str> = given.lines().collect();
+        assert_eq!((given[6], given[9]), ("910800000A04", "910000010A05"));
+    }
+
+    /// The line program's frames keep their answers, whatever stops them.
+    #[test]
+    fn frames_of_the_line_program_give_no_address() {
+        for (line, answer) in [
+            ("010080ABCDABCD", "81000002"),
+            ("010080", "81010000"),
+            ("01FFFFABCD", "81020000"),
+            ("01423EABCDABCDABCD", "81040002"),
+            ("013840001F002000FF", "81060001"),
+            ("02423E0002", "8200000200000000"),
+            ("02423E0003", "8204000200000000"),
+            ("0242020001", "82030000"),
+        ] {
+            assert_eq!(answers(line), format!("{answer}\n"), "{line}");
         }
     }
 
@@ -376,20 +418,28 @@ mod tests {
     #[test]
     fn a_read_answers_the_whole_slice() {
         for (line, answer) in [
-            ("1208600001000155AA", "920000010100"),
-            ("1208600001000355AA", "92000001010055AA55AA"),
-            ("120A3100020003FFFE", "920400010100FFFEFFFE"),
-            ("120860000200015555", "920100005555"),
-            ("120860000000025555", "9201000055555555"),
-            ("120860000000005555", "92010000"),
-            ("120820000100011234", "920200001234"),
-            ("124202000100011234", "920300001234"),
+            ("1208600001000155AA", "9200000108610100"),
+            ("1208600001000355AA", "920000010861010055AA55AA"),
+            ("120A3100020003FFFE", "920400010A320100FFFEFFFE"),
+            ("12423E000200020BAD", "92000002424000000000"),
+            ("12423E000300030BAD", "920400024240000000000BAD"),
+            ("120860000200015555", "9201000008605555"),
+            ("120860000000025555", "92010000086055555555"),
+            ("120860000000005555", "920100000860"),
+            ("12FFFF000000015555", "92010000FFFF5555"),
+            ("12FFFF000100015555", "92020000FFFF5555"),
+            ("120820000100011234", "9202000008201234"),
+            ("124202000100011234", "9203000042021234"),
         ] {
             assert_eq!(answers(line), format!("{answer}\n"), "{line}");
         }
         let whole = answers("120000FFFF10000BAD");
-        assert_eq!(whole, format!("92010000{}\n", "0BAD".repeat(4096)));
-        let most = format!("92040800{}{}\n", "0000".repeat(2048), "0BAD".repeat(2048));
+        assert_eq!(whole, format!("920100000000{}\n", "0BAD".repeat(4096)));
+        let most = format!(
+            "920408000800{}{}\n",
+            "0000".repeat(2048),
+            "0BAD".repeat(2048)
+        );
         assert_eq!(answers("120000100010000BAD"), most);
         assert_eq!(answers("120000100010010BAD"), "FF\n");
     }
@@ -462,7 +512,7 @@ mod tests {
             ("1BFFFFFF", "9B00"),
         ] {
             let given = answers(&format!("{table}\n{point}"));
-            assert_eq!(given, format!("91000006\n{answer}\n"), "{point}");
+            assert_eq!(given, format!("910000060086\n{answer}\n"), "{point}");
         }
     }
 
@@ -471,7 +521,8 @@ mod tests {
         let table = format!("1137800080{}", "FFFF".repeat(128));
         let given = answers(&format!("{table}\n1B030F3F\n1B030F40"));
         let time = 41_287_050;
-        assert_eq!(given, format!("91000080\n9B01FFFFFFF6{time:016X}\n9B00\n"));
+        let point = format!("9B01FFFFFFF6{time:016X}");
+        assert_eq!(given, format!("910000803800\n{point}\n9B00\n"));
     }
 
     #[test]

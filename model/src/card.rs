@@ -2,7 +2,7 @@
 
 use crate::channel::{Active, Channel, Look, Ramp, Trigger, LEVELS, TABLE_WORDS};
 use crate::edition::Edition;
-use crate::map::{Access, Answer, Number, Place, Region};
+use crate::map::{Access, Answer, Number, Place, Region, Walk};
 use crate::sine::Wave;
 
 /// The channels of the card, 0 to 3.
@@ -134,35 +134,36 @@ impl Card {
 
     /// Reads `count` words from `start` into the slice's first words.
     pub fn read(&self, start: u16, count: usize, slice: &mut [u16]) -> Answer {
-        let place = match Place::check(start, count, slice.len(), Access::Read) {
-            Ok(place) => place,
-            Err(number) => return Answer::new(number, 0),
-        };
-        for (done, word) in slice[..count].iter_mut().enumerate() {
-            match place.word(done) {
-                Ok(at) => *word = self.read_word(at),
-                Err(number) => return Answer::new(number, done),
-            }
+        let mut walk = Walk::new(start);
+        let end = self.read_along(&mut walk, count, slice);
+        walk.answer(end)
+    }
+
+    fn read_along(&self, walk: &mut Walk, count: usize, slice: &mut [u16]) -> Result<(), Number> {
+        let start = walk.begin(count, slice.len(), Access::Read)?;
+        for word in &mut slice[..count] {
+            *word = self.read_word(walk.word(start)?);
+            walk.step();
         }
-        Answer::new(Number::Done, count)
+        Ok(())
     }
 
     /// Writes the slice's first `count` words from `start` on, word by word.
     pub fn write(&mut self, start: u16, count: usize, slice: &[u16]) -> Answer {
-        let place = match Place::check(start, count, slice.len(), Access::Write) {
-            Ok(place) => place,
-            Err(number) => return Answer::new(number, 0),
-        };
-        for (done, &value) in slice[..count].iter().enumerate() {
-            let taken = place
-                .word(done)
-                .and_then(|at| self.accept(at, value).map(|()| at));
-            match taken {
-                Ok(at) => self.write_word(at, value),
-                Err(number) => return Answer::new(number, done),
-            }
+        let mut walk = Walk::new(start);
+        let end = self.write_along(&mut walk, count, slice);
+        walk.answer(end)
+    }
+
+    fn write_along(&mut self, walk: &mut Walk, count: usize, slice: &[u16]) -> Result<(), Number> {
+        let start = walk.begin(count, slice.len(), Access::Write)?;
+        for &value in &slice[..count] {
+            let at = walk.word(start)?;
+            self.accept(at, value)?;
+            self.write_word(at, value);
+            walk.step();
         }
-        Answer::new(Number::Done, count)
+        Ok(())
     }
 
     /// The checks of one word to write, in their order: 5, 6, 7, 8.
@@ -262,3 +263,7 @@ mod sine_tests;
 #[cfg(test)]
 #[path = "editions_tests.rs"]
 mod editions_tests;
+
+#[cfg(test)]
+#[path = "stops_tests.rs"]
+mod stops_tests;

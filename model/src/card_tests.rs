@@ -18,9 +18,13 @@ pub(super) fn bench_on(edition: Edition) -> Card {
     card
 }
 
-pub(super) fn write(card: &mut Card, start: u16, words: &[u16]) -> (Number, usize) {
-    let answer = card.write(start, words.len(), words);
+/// The number and the words processed.
+fn done(answer: Answer) -> (Number, usize) {
     (answer.number, answer.processed)
+}
+
+pub(super) fn write(card: &mut Card, start: u16, words: &[u16]) -> (Number, usize) {
+    done(card.write(start, words.len(), words))
 }
 
 pub(super) fn set(card: &mut Card, address: u16, value: u16) {
@@ -34,8 +38,7 @@ pub(super) fn get(card: &Card, address: u16) -> u16 {
 }
 
 fn read(card: &Card, start: u16, count: usize) -> (Number, usize) {
-    let answer = card.read(start, count, &mut [0; 64]);
-    (answer.number, answer.processed)
+    done(card.read(start, count, &mut [0; 64]))
 }
 
 /// Writes the points (V, time step) of table 1 of channel 0.
@@ -257,18 +260,15 @@ fn each_number_once() {
 fn bad_counts() {
     let mut card = Card::fresh(Edition::One);
     let mut many = vec![1; 20_000];
+    let refused = (Number::BadCount, 0);
     for count in [0, 16_382, 20_000, 20_001] {
-        let answer = Answer::new(Number::BadCount, 0);
-        assert_eq!(card.read(0x0080, count, &mut many), answer);
-        assert_eq!(card.write(0x0080, count, &many), answer);
+        assert_eq!(done(card.read(0x0080, count, &mut many)), refused);
+        assert_eq!(done(card.write(0x0080, count, &many)), refused);
     }
-    let answer = Answer::new(Number::Beyond, 1920);
-    assert_eq!(card.write(0x0080, 16_381, &many), answer);
-    assert_eq!(card.read(0x0080, 16_381, &mut many), answer);
-    assert_eq!(
-        card.read(0x0080, 3, &mut [0; 2]),
-        Answer::new(Number::BadCount, 0)
-    );
+    let beyond = (Number::Beyond, 1920);
+    assert_eq!(done(card.write(0x0080, 16_381, &many)), beyond);
+    assert_eq!(done(card.read(0x0080, 16_381, &mut many)), beyond);
+    assert_eq!(done(card.read(0x0080, 3, &mut [0; 2])), refused);
 }
 
 #[test]
@@ -297,8 +297,8 @@ fn the_order_of_the_numbers() {
 fn a_transfer_stops_at_the_first_word_refused_and_keeps_the_rest() {
     let mut card = Card::fresh(Edition::One);
     let mut words = [0xAAAA; 4];
-    let answer = card.read(0x081E, 4, &mut words);
-    assert_eq!(answer, Answer::new(Number::Beyond, 2));
+    let stopped = done(card.read(0x081E, 4, &mut words));
+    assert_eq!(stopped, (Number::Beyond, 2));
     assert_eq!(words, [0, 0, 0xAAAA, 0xAAAA]);
     let stopped = write(&mut card, 0x4202, &[3, 4]);
     assert_eq!(stopped, (Number::Beyond, 1));

@@ -5,7 +5,7 @@ use super::tests::{bench_on, get, output, samples_of, samples_on, set, set_sum, 
 use super::*;
 use crate::channel::Ramp;
 use crate::edition::{bound, Fraction};
-use crate::map::{CARD_ROWS, CHANNEL_ROWS};
+use crate::map::{Row, CARD_ROWS, CHANNEL_ROWS};
 use crate::program::{self, Lines, Program};
 use crate::random::Random;
 use crate::saved;
@@ -294,7 +294,7 @@ fn used(edition: Edition) -> Card {
 }
 
 /// Every word of two cards, hidden ones too.
-fn is_same(one: &Card, other: &Card) -> bool {
+pub(super) fn is_same(one: &Card, other: &Card) -> bool {
     format!("{one:?}") == format!("{other:?}")
 }
 
@@ -335,13 +335,18 @@ fn a_reset_keeps_the_edition_and_a_fresh_card_replaces_it() {
     assert_eq!(example_again(&mut card), 13);
 }
 
+/// The rows of every channel and of the card, each with its base.
+pub(super) fn rows() -> Vec<(u16, &'static Row)> {
+    let card = CARD_ROWS.iter().map(|row| (0, row));
+    let rows = (0..4).flat_map(|base| CHANNEL_ROWS.iter().map(move |row| (base << 12, row)));
+    rows.chain(card).collect()
+}
+
 /// The editions have all words in common but outputs and overflow counts.
 #[test]
 fn nothing_but_samples_depends_on_the_edition() {
     let [mut one, mut two] = Edition::BOTH.map(used);
-    let words = CARD_ROWS.iter().map(|row| (0, row));
-    let rows = (0..4).flat_map(|base| CHANNEL_ROWS.iter().map(move |row| (base << 12, row)));
-    let rows: Vec<_> = rows.chain(words).collect();
+    let rows = rows();
     let mut differed = 0;
     for _ in 0..700 {
         for &(base, &(first, last, ..)) in &rows {

@@ -76,12 +76,14 @@ impl Frame {
         match *self {
             Frame::Write { start, ref words } => {
                 let done = card.write(start, words.len(), words);
-                put_transfer(out, 0x81, done, &[])
+                put_transfer(out, 0x81, done)?;
+                put_words(out, &[])
             }
             Frame::Read { start, count } => {
                 let mut words = [0; MAX_WORDS];
                 let done = card.read(start, count, &mut words);
-                put_transfer(out, 0x82, done, &words[..done.processed])
+                put_transfer(out, 0x82, done)?;
+                put_words(out, &words[..done.processed])
             }
             Frame::Ticks(ticks) => {
                 for _ in 0..ticks {
@@ -97,16 +99,10 @@ impl Frame {
     }
 }
 
-/// The answer to a transfer: number, processed and the words read.
-pub fn put_transfer(
-    out: &mut impl Write,
-    kind: u8,
-    answer: Answer,
-    words: &[u16],
-) -> io::Result<()> {
+/// What every answer to a transfer begins with: number and processed.
+pub fn put_transfer(out: &mut impl Write, kind: u8, answer: Answer) -> io::Result<()> {
     let number = answer.number as u8;
-    write!(out, "{kind:02X}{number:02X}{:04X}", answer.processed)?;
-    put_words(out, words)
+    write!(out, "{kind:02X}{number:02X}{:04X}", answer.processed)
 }
 
 /// The answer to ticks: the four outputs.
@@ -116,7 +112,7 @@ fn put_outputs(out: &mut impl Write, kind: u8, card: &Card) -> io::Result<()> {
 }
 
 /// Words of four digits each, and the LF that ends the answer.
-fn put_words(out: &mut impl Write, words: &[u16]) -> io::Result<()> {
+pub fn put_words(out: &mut impl Write, words: &[u16]) -> io::Result<()> {
     for word in words {
         write!(out, "{word:04X}")?;
     }

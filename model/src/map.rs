@@ -1,4 +1,5 @@
-//! The map of words: its rows, the values they accept, and the numbers of refusals.
+//! The map of words: its rows, the values they accept, the numbers of refusals,
+//! and the walk of a transfer over it.
 
 use crate::channel::TABLE_WORDS;
 use crate::sine::Mode;
@@ -35,17 +36,13 @@ pub enum Number {
     ShortBuffer = 10,
 }
 
-/// A number and the words processed, counted only when really done.
+/// A number, the words processed, counted only when really done, and the
+/// address of the first word not done.
 #[derive(Clone, Copy, Debug, PartialEq, Eq)]
 pub struct Answer {
     pub number: Number,
     pub processed: usize,
-}
-
-impl Answer {
-    pub fn new(number: Number, processed: usize) -> Self {
-        Answer { number, processed }
-    }
+    pub address: u16,
 }
 
 #[derive(Clone, Copy, Debug, PartialEq, Eq)]
@@ -176,8 +173,6 @@ pub struct Place {
     pub channel: usize,
     /// The address's word, counted from the region's first.
     pub index: usize,
-    /// The words of the region.
-    words: usize,
 }
 
 impl Place {
@@ -189,7 +184,7 @@ impl Place {
         } else {
             (&CARD_ROWS[..], 0, address)
         };
-        let &(first, last, access, region) = rows
+        let &(first, _, access, region) = rows
             .iter()
             .find(|&&(first, last, ..)| first <= offset && offset <= last)?;
         Some(Place {
@@ -197,30 +192,61 @@ impl Place {
             access,
             channel,
             index: usize::from(offset - first),
-            words: usize::from(last - first) + 1,
         })
     }
 
-    /// The checks made once, in their order: 1, 2, 3.
-    pub fn check(start: u16, count: usize, length: usize, wanted: Access) -> Result<Place, Number> {
+    /// Whether both lie in one region: each row is one for every channel.
+    pub fn shares_region(self, other: Place) -> bool {
+        (self.region, self.channel) == (other.region, other.channel)
+    }
+}
+
+/// A transfer on its way upwards: it stands at the first word not done.
+pub struct Walk {
+    address: u16,
+    processed: usize,
+}
+
+impl Walk {
+    pub fn new(start: u16) -> Self {
+        Walk {
+            address: start,
+            processed: 0,
+        }
+    }
+
+    /// The checks made once, at the start, in their order: 1, 2, 3.
+    pub fn begin(&self, count: usize, length: usize, wanted: Access) -> Result<Place, Number> {
         if count == 0 || count > MAX_COUNT || count > length {
             return Err(Number::BadCount);
         }
-        let place = Place::find(start).ok_or(Number::NoRegion)?;
-        if place.access.allows(wanted) {
-            Ok(place)
+        let start = Place::find(self.address).ok_or(Number::NoRegion)?;
+        if start.access.allows(wanted) {
+            Ok(start)
         } else {
             Err(Number::NoAccess)
         }
     }
 
-    /// The same region, `step` words on, or 4 if that lies beyond it.
-    pub fn word(self, step: usize) -> Result<Place, Number> {
-        let index = self.index + step;
-        if index < self.words {
-            Ok(Place { index, ..self })
-        } else {
-            Err(Number::Beyond)
+    /// The word it stands at, or 4 if that lies beyond the start's region.
+    pub fn word(&self, start: Place) -> Result<Place, Number> {
+        Place::find(self.address)
+            .filter(|word| word.shares_region(start))
+            .ok_or(Number::Beyond)
+    }
+
+    /// The word it stood at is done.
+    pub fn step(&mut self) {
+        self.address += 1;
+        self.processed += 1;
+    }
+
+    /// The transfer has ended where it stands.
+    pub fn answer(self, end: Result<(), Number>) -> Answer {
+        Answer {
+            number: end.err().unwrap_or(Number::Done),
+            processed: self.processed,
+            address: self.address,
         }
     }
 }

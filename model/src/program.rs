@@ -174,7 +174,7 @@ mod tests {
         let long = format!("11008000{:02X}{}\n18\n", 9, "0001".repeat(4096));
         for size in [1, 1000, 16_394, 16_395, 16_396] {
             let given = answers_in(Program::Bench, long.as_bytes(), size);
-            assert_eq!(given, "91000009\n98\n");
+            assert_eq!(given, "910000090089\n98\n");
         }
     }
 

@@ -3,6 +3,7 @@
 mod edition;
 mod profile;
 mod sine;
+mod stops;
 
 use std::collections::BTreeSet;
 use std::fmt;
@@ -16,6 +17,7 @@ use crate::program::Program;
 use crate::saved;
 use edition::Twin;
 use sine::{Origin, Written};
+use stops::Stops;
 
 const NO_FRAME: &str = "lines that are no frame";
 const SHOWN: &str = "plotted points shown";
@@ -112,6 +114,7 @@ fn things(program: Program) -> Vec<String> {
         things.extend(OF_BENCH.map(String::from));
         things.extend(profile::OF_BENCH.map(String::from));
         things.extend(edition::OF_BENCH.map(String::from));
+        things.extend(stops::of_bench());
     }
     things.extend(OF_BOTH.map(String::from));
     things.extend(sine::OF_BOTH.map(String::from));
@@ -187,6 +190,7 @@ struct Player<'a> {
     /// What has set each channel's amplitude.
     origin: [Origin; CHANNELS],
     twin: Twin,
+    stops: Stops,
     /// The things that are counted once a session.
     session: BTreeSet<&'static str>,
 }
@@ -200,6 +204,7 @@ impl<'a> Player<'a> {
             handed_in: [false; CHANNELS],
             origin: [Origin::Reset; CHANNELS],
             twin: Twin::new(),
+            stops: Stops::default(),
             session: BTreeSet::new(),
         }
     }
@@ -324,6 +329,9 @@ impl<'a> Player<'a> {
             return self.no_frame(line);
         };
         self.edition_answered(&frame, &answer, &twins);
+        if self.is_bench() {
+            self.stop_answered(&frame, &answer);
+        }
         self.frame_answered(looks, &frame, &answer);
     }
 

@@ -4,6 +4,7 @@ mod bench;
 mod edition;
 mod profile;
 mod sine;
+mod stops;
 
 use std::fs;
 use std::io;
@@ -475,6 +476,16 @@ impl Session {
         }
     }
 
+    /// A ramp of these words, ready to run at the level 10 ticks after its
+    /// trigger.
+    fn ready_ramp(&mut self, base: u16, level: u16, words: &[u16]) {
+        let table = self.tables[0];
+        self.write(base + 128 * table, words);
+        self.write(base + 0x800 + level, &[table]);
+        self.set_delay(base, level, 10);
+        self.write(base + 0xA00, &[1]);
+    }
+
     /// Marta's writes, at any moment.
     fn change_setting(&mut self) {
         let base = self.base();
@@ -651,13 +662,9 @@ impl Session {
     fn meet_a_sample(&mut self) {
         let base = self.base();
         let [first, second, _] = self.levels;
-        let table = self.tables[0];
         let steps = self.random.within(1, 4);
         let words = [self.value(), steps, self.value(), 0];
-        self.write(base + 128 * table, &words);
-        self.write(base + 0x800 + first, &[table]);
-        self.set_delay(base, first, 10);
-        self.write(base + 0xA00, &[1]);
+        self.ready_ramp(base, first, &words);
         // Counted from the first trigger: sample k comes on tick 10 + 10k.
         let sample = 10 + 10 * self.random.within(1, steps).max(steps - 1);
         let between = self.random.within(10, sample - 1);

@@ -10,7 +10,7 @@ use panel::Plotted;
 use panel::Reading;
 use profile::Verdict;
 use sum::Edition;
-use transfer::Answer;
+use transfer::Reply;
 ghost use Prim.Native.Nat.{_+_, _≤_, _<_};
 ghost use lib.ListN.{length};
 
@@ -127,7 +127,7 @@ fn serve_chunk(
             k = a.card;
             h = 0;
             end = room_made(out, a.end);
-            if 49142 < end {
+            if 49139 < end {
                 return stopped(k);
             }
         } else {
@@ -151,12 +151,12 @@ fn stopped(card: Card) -> Turn {
 }
 
 // Where the answers end once there is room for one more: written, if they must be; still there where they cannot be written.
-// An answer has at most 16,394 bytes with its LF, so there is room for one up to place 49,142 of the 65,536.
+// An answer has at most 16,397 bytes with its LF, so there is room for one up to place 49,139 of the 65,536.
 fn room_made(out: &[u8], end: usize) -> usize
     requires { ⌜ end ≤ 65536 ⌝ }
     ensures { λ r. ⌜ r ≤ end ⌝ }
 {
-    if end <= 49142 {
+    if end <= 49139 {
         return end;
     }
     if write_answers(out, end) { 0 } else { end }
@@ -173,8 +173,8 @@ fn end_line(
     at: usize,
     card: Card,
 ) -> Answered
-    requires { ⌜ (at ≤ 49142) × (65536 ≤ length (now out)) ⌝ }
-    ensures { λ r. ⌜ r .end ≤ at + 16394 ⌝ }
+    requires { ⌜ (at ≤ 49139) × (65536 ≤ length (now out)) ⌝ }
+    ensures { λ r. ⌜ r .end ≤ at + 16397 ⌝ }
 {
     let n = word::least(held, line.len());
     let a = answer(settings, tables, waves, card, &line[..n], &mut out[at..]);
@@ -225,7 +225,7 @@ fn answer(
     line: &[u8],
     out: &mut [u8],
 ) -> Answered
-    ensures { λ r. ⌜ r .end ≤ 16393 ⌝ }
+    ensures { λ r. ⌜ r .end ≤ 16396 ⌝ }
 {
     if !digits::all_digits(line) {
         return bad(card, out);
@@ -246,7 +246,7 @@ fn answer(
 
 // FF: the line is no frame.
 fn bad(card: Card, out: &mut [u8]) -> Answered
-    ensures { λ r. ⌜ r .end ≤ 16393 ⌝ }
+    ensures { λ r. ⌜ r .end ≤ 16396 ⌝ }
 {
     digits::put2(out, 0, 0xFF);
     Answered { card: card, end: 2 }
@@ -254,7 +254,7 @@ fn bad(card: Card, out: &mut [u8]) -> Answered
 
 // 10, channel, words: the wave table of a channel. A line of 16,394 digits has 4,097 words at most.
 fn hand_in(waves: &mut [u16; 4096], card: Card, line: &[u8], out: &mut [u8]) -> Answered
-    ensures { λ r. ⌜ r .end ≤ 16393 ⌝ }
+    ensures { λ r. ⌜ r .end ≤ 16396 ⌝ }
 {
     let n = line.len();
     if n < 4 {
@@ -283,7 +283,7 @@ fn write_slice(
     line: &[u8],
     out: &mut [u8],
 ) -> Answered
-    ensures { λ r. ⌜ r .end ≤ 16393 ⌝ }
+    ensures { λ r. ⌜ r .end ≤ 16396 ⌝ }
 {
     let n = line.len();
     if n < 10 {
@@ -306,18 +306,18 @@ fn write_slice(
         digits::word_at(line, 6) as usize,
         &words[..k],
     );
-    let answer = w.answer;
-    put_answer(out, 0x91, answer);
+    let reply = w.reply;
+    put_reply(out, 0x91, reply);
     let after = w.card;
     Answered {
         card: after,
-        end: 8,
+        end: 12,
     }
 }
 
 // 12, start, count, length up to 1000 (hex), fill: a read into a slice of that length, and the whole slice.
 fn read_slice(settings: &[u16; 16960], card: Card, line: &[u8], out: &mut [u8]) -> Answered
-    ensures { λ r. ⌜ r .end ≤ 16393 ⌝ }
+    ensures { λ r. ⌜ r .end ≤ 16396 ⌝ }
 {
     if line.len() != 18 {
         return bad(card, out);
@@ -328,26 +328,20 @@ fn read_slice(settings: &[u16; 16960], card: Card, line: &[u8], out: &mut [u8]) 
     }
     let mut words = [0u16; 4096];
     slots::fill(&mut words, 0, 4096, digits::word_at(line, 14));
-    put_answer(
+    put_reply(
         out,
         0x92,
         read_into(settings, card, line, &mut words, asked as usize),
     );
-    digits::put_words(out, 8, &words, asked);
+    digits::put_words(out, 12, &words, asked);
     Answered {
         card: card,
-        end: 8 + 4 * (asked as usize),
+        end: 12 + 4 * (asked as usize),
     }
 }
 
 // The read itself, into the first n words.
-fn read_into(
-    settings: &[u16; 16960],
-    card: Card,
-    line: &[u8],
-    words: &mut [u16],
-    n: usize,
-) -> Answer
+fn read_into(settings: &[u16; 16960], card: Card, line: &[u8], words: &mut [u16], n: usize) -> Reply
     requires { ⌜ n ≤ length (now words) ⌝ }
 {
     transfer::read(
@@ -359,20 +353,22 @@ fn read_into(
     )
 }
 
-// The head of a transfer's answer.
-fn put_answer(out: &mut [u8], name: usize, answer: Answer) {
+// The head of a transfer's answer: its name, the number, the words processed, and the address of the first word not done.
+fn put_reply(out: &mut [u8], name: usize, reply: Reply) {
+    let answer = reply.answer;
     line::put_head(
         out,
         0,
         name,
         transfer::number(answer),
         transfer::processed(answer),
-    )
+    );
+    digits::put4(out, 8, reply.address as usize)
 }
 
 // 15, length (8) up to 10000 (hex): the settings saved as lines, into a buffer of that many bytes, each 55 (hex) before.
 fn save(settings: &[u16; 16960], card: Card, line: &[u8], out: &mut [u8]) -> Answered
-    ensures { λ r. ⌜ r .end ≤ 16393 ⌝ }
+    ensures { λ r. ⌜ r .end ≤ 16396 ⌝ }
 {
     if line.len() != 10 {
         return bad(card, out);
@@ -421,7 +417,7 @@ fn reduced(sum: usize) -> usize
 
 // 16: whether the bench keeps the profile: 9600, or 9601, channel (2), level (2).
 fn check(settings: &[u16; 16960], card: Card, line: &[u8], out: &mut [u8]) -> Answered
-    ensures { λ r. ⌜ r .end ≤ 16393 ⌝ }
+    ensures { λ r. ⌜ r .end ≤ 16396 ⌝ }
 {
     if line.len() != 2 {
         return bad(card, out);
@@ -449,7 +445,7 @@ fn fresh(
     line: &[u8],
     out: &mut [u8],
 ) -> Answered
-    ensures { λ r. ⌜ r .end ≤ 16393 ⌝ }
+    ensures { λ r. ⌜ r .end ≤ 16396 ⌝ }
 {
     if line.len() != 4 {
         return bad(card, out);
@@ -469,7 +465,7 @@ fn fresh_card(
     edition: Edition,
     out: &mut [u8],
 ) -> Answered
-    ensures { λ r. ⌜ r .end ≤ 16393 ⌝ }
+    ensures { λ r. ⌜ r .end ≤ 16396 ⌝ }
 {
     digits::put2(out, 0, 0x97);
     Answered {
@@ -487,7 +483,7 @@ fn reset(
     line: &[u8],
     out: &mut [u8],
 ) -> Answered
-    ensures { λ r. ⌜ r .end ≤ 16393 ⌝ }
+    ensures { λ r. ⌜ r .end ≤ 16396 ⌝ }
 {
     if line.len() != 2 {
         return bad(card, out);
@@ -501,7 +497,7 @@ fn reset(
 
 // 1B, channel, table, point: volts × 32768 and microseconds of a plotted point, or none.
 fn plot(settings: &[u16; 16960], card: Card, line: &[u8], out: &mut [u8]) -> Answered
-    ensures { λ r. ⌜ r .end ≤ 16393 ⌝ }
+    ensures { λ r. ⌜ r .end ≤ 16396 ⌝ }
 {
     if line.len() != 8 {
         return bad(card, out);
@@ -535,7 +531,7 @@ fn put_point(out: &mut [u8], p: Plotted) {
 
 // 1C, address, word: what the panel shows, as a kind and a value.
 fn show(card: Card, line: &[u8], out: &mut [u8]) -> Answered
-    ensures { λ r. ⌜ r .end ≤ 16393 ⌝ }
+    ensures { λ r. ⌜ r .end ≤ 16396 ⌝ }
 {
     if line.len() != 10 {
         return bad(card, out);
@@ -564,7 +560,7 @@ fn put_reading(out: &mut [u8], kind: usize, value: usize) {
 
 // Eight digits: two words of four.
 fn put8(out: &mut [u8], at: usize, x: usize)
-    requires { ⌜ at ≤ 16393 ⌝ }
+    requires { ⌜ at ≤ 16396 ⌝ }
 {
     digits::put4(out, at, x / 65536);
     digits::put4(out, at + 4, x);

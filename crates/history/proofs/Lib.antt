@@ -23,6 +23,8 @@ pub mod Sines
 pub mod Saves
 pub mod Demand1
 pub mod Counts
+pub mod Stops
+pub mod Onward
 pub mod Triggers
 pub mod Story
 pub mod Countdowns

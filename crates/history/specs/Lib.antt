@@ -12,6 +12,7 @@ pub mod Saves
 pub mod Demand1
 pub mod Settings
 pub mod Counts
+pub mod Stops
 pub mod Story
 pub mod Countdowns
 pub mod Active

@@ -126,16 +126,16 @@ ticked-answers st name at {o = o} {o′} {to} p q r h =
 
 pub wrote-answers : (st : State) (start count at : ℕ) {ws ws′ s l o o′ : List ℕ} {w : Written} {number processed : ℕ}
     → ws ≡ ws′
-    → w ≡ written (writeOf st start count ws)
+    → w ≡ written start (writeOf st start count ws)
     → s ≡ writeOf st start count ws .state .settings
     → l ≡ writeOf st start count ws .state .tables
-    → number ≡ numberOf (w .answer)
-    → processed ≡ processedOf (w .answer)
+    → number ≡ numberOf (w .reply .answer)
+    → processed ≡ processedOf (w .reply .answer)
     → o′ ≡ sets o at (headOf 0x81 number processed)
     → Answers (wrote (writeOf st start count ws′)) at o o′ s l (record { card = w .card; end = at + 8 })
 wrote-answers st start count at {ws} {ws′} {s} {l} {o} {o′} {w} {number} {processed} f e p q x y h =
     let d : Out = writeOf st start count ws in
-    let a : w .answer ≡ d .answer = ap (λ (v : Written). v .answer) e in
+    let a : w .reply .answer ≡ d .answer = ap (λ (v : Written). v .reply .answer) e in
     let n : number ≡ numberOf (d .answer) = x ∙ ap numberOf a in
     let m : processed ≡ processedOf (d .answer) = y ∙ ap processedOf a in
     let r : Answers (wrote d) at o o′ s l (record { card = w .card; end = at + 8 }) =

@@ -1,3 +1,4 @@
 pub mod Arms
 pub mod Loops
 pub mod Fits
+pub mod Stops

@@ -19,10 +19,12 @@ use Rattle.transfer.specs.declared.Verdict.{Verdict}
 use Rattle.transfer.specs.declared.Verdict.the-variants as D
 use Rattle.transfer.specs.declared.Answer.{Answer}
 use Rattle.transfer.specs.declared.Answer.the-variants.{Done, BadCount, NoRegion, NoAccess, Beyond, Refused}
+use Rattle.transfer.specs.declared.Reply.{Reply}
 use Rattle.transfer.specs.declared.Written.{Written}
+use Rattle.transfer.specs.declared.Outcome.{Outcome}
 use Rattle.transfer.specs.Word.{writeWord, readWord}
 
--- ---- the paper's number of each answer, and the words processed
+-- ---- the paper's number of each answer, the words processed, and the address of the first word not done
 
 abbrev pub whyNumber : Why → ℕ
 whyNumber Fixed = 5
@@ -45,6 +47,19 @@ processedOf NoRegion = 0
 processedOf NoAccess = 0
 processedOf (Beyond n) = n
 processedOf (Refused why n) = n
+
+-- of a transfer from `start` on: 'for numbers 1 to 3 this is the start, and for 0 the address after the last word', else the refused word's
+abbrev pub addressOf : ℕ → Answer → ℕ
+addressOf start (Done n) = start + n
+addressOf start BadCount = start
+addressOf start NoRegion = start
+addressOf start NoAccess = start
+addressOf start (Beyond n) = start + n
+addressOf start (Refused why n) = start + n
+
+-- 'Each transfer's answer shall also carry the address'
+abbrev pub replyOf : ℕ → Answer → Reply
+replyOf start w = record { answer = w; address = addressOf start w }
 
 -- ---- 'order: 1, 2, 3 once'
 
@@ -92,13 +107,19 @@ writeIn st start count ws (At r) = cond (writable (r .access)) (writeWords st st
 unfoldable pub writeOf : State → ℕ → ℕ → List ℕ → Out
 writeOf st start count ws = cond (badCount count (length ws)) (out st BadCount) (writeIn st start count ws (regionOf start))
 
--- what a write hands back by value
-abbrev pub written : Out → Written
-written o = record { card = o .state .card; answer = o .answer }
+-- what its words come to by value, and the settings and the tables that they leave
+abbrev pub outcomeOf : Out → Outcome
+outcomeOf o = record { card = o .state .card; answer = o .answer }
 
--- and the settings and the tables that it leaves
-abbrev pub Wrote : Out → Written → Lent → Lent → Type 0
-Wrote o r settings tables = (r ≡ written o) × (left settings ≡ o .state .settings) × (left tables ≡ o .state .tables)
+abbrev pub Ends : Out → Outcome → Lent → Lent → Type 0
+Ends o r settings tables = (r ≡ outcomeOf o) × (left settings ≡ o .state .settings) × (left tables ≡ o .state .tables)
+
+-- what a write from `start` on hands back by value, and the same settings and tables
+abbrev pub written : ℕ → Out → Written
+written start o = record { card = o .state .card; reply = replyOf start (o .answer) }
+
+abbrev pub Wrote : ℕ → Out → Written → Lent → Lent → Type 0
+Wrote start o r settings tables = (r ≡ written start o) × (left settings ≡ o .state .settings) × (left tables ≡ o .state .tables)
 
 -- ---- a read: 'fills the slice's first processed words and has no other effect; the rest of the slice stays'
 
@@ -121,6 +142,10 @@ readIn s k start count ws (At r) = cond (readable (r .access)) (readWords s k st
 unfoldable pub readOf : List ℕ → Card → ℕ → ℕ → List ℕ → Filled
 readOf s k start count ws = cond (badCount count (length ws)) (filled ws BadCount) (readIn s k start count ws (regionOf start))
 
--- the answer handed back, and the words left in the slice
-abbrev pub Reads : Filled → Answer → Lent → Type 0
-Reads f w words = (w ≡ f .answer) × (left words ≡ f .words)
+-- the answer that the words come to, and the words left in the slice
+abbrev pub Fills : Filled → Answer → Lent → Type 0
+Fills f w words = (w ≡ f .answer) × (left words ≡ f .words)
+
+-- what a read from `start` on hands back, and the same words
+abbrev pub Reads : ℕ → Filled → Reply → Lent → Type 0
+Reads start f r words = (r ≡ replyOf start (f .answer)) × (left words ≡ f .words)

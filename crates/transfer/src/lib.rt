@@ -9,14 +9,14 @@ use map::Found;
 use map::Register;
 use slots::Holder;
 ghost use mathlib.Core.Path.{_≡_};
-ghost use Prim.Native.Nat.{_≤_};
+ghost use Prim.Native.Nat.{_+_, _≤_, _<_};
 ghost use lib.ListN.{take, length};
 ghost use Rattle.word.specs.Lent.{lent, left};
 ghost use Rattle.map.specs.Settings.{isFixed};
 ghost use Rattle.channel.specs.Channel.{outputTo, overflowCleared};
 ghost use Rattle.card.specs.Card.{before, LeavesWhole};
 ghost use Rattle.transfer.specs.Word.{Fits, Steps, heldAt, runningAt, judgeOf, effectOf, performOf, writeWord, statusOf, readWord};
-ghost use Rattle.transfer.specs.Transfer.{whyNumber, numberOf, processedOf, badCount, writable, readable, Wrote, writeWords, writeOf, Reads, readWords, readOf};
+ghost use Rattle.transfer.specs.Transfer.{whyNumber, numberOf, processedOf, replyOf, badCount, writable, readable, writeWords, writeOf, Ends, Wrote, readWords, readOf, Fills, Reads};
 
 // Why a word is refused.
 pub enum Why {
@@ -55,7 +55,19 @@ pub enum Answer {
     Refused(Why, usize),
 }
 
+// What a transfer says: its answer, and the address of the first word not done.
+pub struct Reply {
+    pub answer: Answer,
+    pub address: u16,
+}
+
 pub struct Written {
+    pub card: Card,
+    pub reply: Reply,
+}
+
+// The card after the words of a write, and their answer.
+pub struct Outcome {
     pub card: Card,
     pub answer: Answer,
 }
@@ -75,21 +87,14 @@ pub fn write(
     count: usize,
     words: &[u16],
 ) -> Written
-    ensures { λ r. ⌜ Wrote (writeOf (before card settings tables) start count (lent words)) r settings tables ⌝ }
+    ensures { λ r. ⌜ Wrote start (writeOf (before card settings tables) start count (lent words)) r settings tables ⌝ }
 {
-    if bad_count(count, words.len()) {
-        return ended(card, Answer::BadCount);
-    }
-    match regions::region_of(start) {
-        Found::Nothing => ended(card, Answer::NoRegion),
-        Found::At(r) => {
-            let access = r.access;
-            if may_write(access) {
-                write_words(settings, tables, card, start, r.last, words, count)
-            } else {
-                ended(card, Answer::NoAccess)
-            }
-        }
+    let w = write_from(settings, tables, card, start, count, words);
+    let k = w.card;
+    let answer = w.answer;
+    Written {
+        card: k,
+        reply: replied(start, answer),
     }
 }
 
@@ -100,23 +105,10 @@ pub fn read(
     start: u16,
     count: usize,
     words: &mut [u16],
-) -> Answer
-    ensures { λ r. ⌜ Reads (readOf (lent settings) card start count (lent words)) r words ⌝ }
+) -> Reply
+    ensures { λ r. ⌜ Reads start (readOf (lent settings) card start count (lent words)) r words ⌝ }
 {
-    if bad_count(count, words.len()) {
-        return Answer::BadCount;
-    }
-    match regions::region_of(start) {
-        Found::Nothing => Answer::NoRegion,
-        Found::At(r) => {
-            let access = r.access;
-            if may_read(access) {
-                read_words(settings, card, start, r.last, words, count)
-            } else {
-                Answer::NoAccess
-            }
-        }
-    }
+    replied(start, read_from(settings, card, start, count, words))
 }
 
 // The paper's number of an answer.
@@ -158,6 +150,71 @@ fn why_number(why: Why) -> u16
     }
 }
 
+// The answer with its address: as many words from the start on as are done.
+fn replied(start: u16, answer: Answer) -> Reply
+    requires { ⌜ start + processedOf answer < 65536 ⌝ }
+    ensures { λ r. ⌜ r ≡ replyOf start answer ⌝ }
+{
+    let n = processed(answer);
+    Reply {
+        answer: answer,
+        address: start + n as u16,
+    }
+}
+
+// The words of a write: numbers 1, 2 and 3 once, then word by word.
+fn write_from(
+    settings: &mut [u16; 16960],
+    tables: &mut [u16; 512],
+    card: Card,
+    start: u16,
+    count: usize,
+    words: &[u16],
+) -> Outcome
+    ensures { λ r. ⌜ Ends (writeOf (before card settings tables) start count (lent words)) r settings tables ⌝ }
+{
+    if bad_count(count, words.len()) {
+        return ended(card, Answer::BadCount);
+    }
+    match regions::region_of(start) {
+        Found::Nothing => ended(card, Answer::NoRegion),
+        Found::At(r) => {
+            let access = r.access;
+            if may_write(access) {
+                write_words(settings, tables, card, start, r.last, words, count)
+            } else {
+                ended(card, Answer::NoAccess)
+            }
+        }
+    }
+}
+
+// The words of a read: the same, into the slice.
+fn read_from(
+    settings: &[u16; 16960],
+    card: Card,
+    start: u16,
+    count: usize,
+    words: &mut [u16],
+) -> Answer
+    ensures { λ r. ⌜ Fills (readOf (lent settings) card start count (lent words)) r words ⌝ }
+{
+    if bad_count(count, words.len()) {
+        return Answer::BadCount;
+    }
+    match regions::region_of(start) {
+        Found::Nothing => Answer::NoRegion,
+        Found::At(r) => {
+            let access = r.access;
+            if may_read(access) {
+                read_words(settings, card, start, r.last, words, count)
+            } else {
+                Answer::NoAccess
+            }
+        }
+    }
+}
+
 fn bad_count(count: usize, len: usize) -> bool
     ensures { λ b. ⌜ b ≡ badCount count len ⌝ }
 {
@@ -190,11 +247,11 @@ fn may_read(access: Access) -> bool
     }
 }
 
-// What a write hands back.
-fn ended(card: Card, answer: Answer) -> Written
+// What the words of a write come to.
+fn ended(card: Card, answer: Answer) -> Outcome
     ensures { λ r. ⌜ r ≡ record { card = card; answer = answer } ⌝ }
 {
-    Written {
+    Outcome {
         card: card,
         answer: answer,
     }
@@ -209,9 +266,9 @@ fn write_words(
     last: u16,
     words: &[u16],
     count: usize,
-) -> Written
+) -> Outcome
     requires { ⌜ (count ≤ length (now words)) × (count ≤ 16381) ⌝ }
-    ensures { λ r. ⌜ Wrote (writeWords (before card settings tables) start last 0 (take count (lent words))) r settings tables ⌝ }
+    ensures { λ r. ⌜ Ends (writeWords (before card settings tables) start last 0 (take count (lent words))) r settings tables ⌝ }
 {
     let mut k = card;
     let mut i: usize = 0;
@@ -244,7 +301,7 @@ fn read_words(
     count: usize,
 ) -> Answer
     requires { ⌜ count ≤ 16381 ⌝ }
-    ensures { λ r. ⌜ Reads (readWords (lent settings) card start last 0 count (lent words)) r words ⌝ }
+    ensures { λ r. ⌜ Fills (readWords (lent settings) card start last 0 count (lent words)) r words ⌝ }
 {
     let mut i: usize = 0;
     while i < count {

@@ -8,13 +8,18 @@ use crate::saved;
 const SLICE: u16 = MAX_SLICE as u16;
 
 /// The kinds of steps a session of the bench program is made of.
-pub(super) const STEPS: [Step; 24] = [
+pub(super) const STEPS: [Step; 29] = [
     (100, Session::line_step),
     (3, Session::write_tables),
     (3, Session::write_region),
-    (2, Session::write_long_to_a_fixed_word),
-    (3, Session::write_map_with_a_bad_value),
     (2, Session::write_trigger_map),
+    (4, Session::mend_a_map),
+    (3, Session::mend_the_trigger_map),
+    (4, Session::write_on_behind_a_region),
+    (2, Session::write_long_to_a_fixed_word),
+    (3, Session::write_an_output_again),
+    (3, Session::read_on_behind_a_region),
+    (3, Session::stop_at_the_start),
     (2, Session::count_beside_the_slice),
     (5, Session::read_long),
     (3, Session::reset_in_mid_ramp),
@@ -43,7 +48,7 @@ impl Session {
     }
 
     /// The frame of a write of `count` from a slice.
-    fn slice_line(&mut self, start: u16, count: u16, slice: &[u16]) {
+    pub(super) fn slice_line(&mut self, start: u16, count: u16, slice: &[u16]) {
         let digits = digits(slice);
         self.line(format!("11{start:04X}{count:04X}{digits}").as_bytes());
     }
@@ -59,7 +64,7 @@ impl Session {
     }
 
     /// A read into a slice of that length, filled with some word.
-    fn read_line(&mut self, start: u16, count: u16, length: u16) {
+    pub(super) fn read_line(&mut self, start: u16, count: u16, length: u16) {
         let any = self.random.word();
         let fill = self.random.pick(&[0x0000, 0xFFFF, 0x55AA, any]);
         self.line(format!("12{start:04X}{count:04X}{length:04X}{fill:04X}").as_bytes());
@@ -118,35 +123,6 @@ impl Session {
         self.write_from_a_slice(start, &words);
     }
 
-    fn write_long_to_a_fixed_word(&mut self) {
-        let base = self.base();
-        let inside = self.random.below(0x80);
-        let start = self.random.pick(&[0x000, 0x07F, inside, 0x860, 0x8A0]);
-        let count = self.random.pick(&[1, 32, 130]);
-        let words: Vec<u16> = (0..count).map(|_| self.value()).collect();
-        self.write_from_a_slice(base + start, &words);
-    }
-
-    /// A whole map with one value in it that is not accepted, or with none.
-    fn write_map_with_a_bad_value(&mut self) {
-        let base = self.base();
-        let maps = [
-            (0x800, 16),
-            (0x840, 32),
-            (0x880, 32),
-            (0x900, 32),
-            (0x940, 32),
-        ];
-        let (map, entries) = self.random.pick(&maps);
-        let mut words: Vec<u16> = (0..32).map(|_| self.random.below(entries)).collect();
-        if self.random.percent(80) {
-            let bad = self.random.pick(&[entries, 0x0100, 0x8000, 0xFFFF]);
-            let at = self.random.below(32);
-            words[usize::from(at)] = bad;
-        }
-        self.write_from_a_slice(base + map, &words);
-    }
-
     /// The trigger map from some level on, each event at one level, but often
     /// one of the session's own that another level may hold.
     fn write_trigger_map(&mut self) {
@@ -163,6 +139,11 @@ impl Session {
             });
         }
         self.write_from_a_slice(0x4000 + 8 * first, &words);
+        self.fill_slots_anew();
+    }
+
+    /// Most often an empty trigger map with the session's events in it.
+    pub(super) fn fill_slots_anew(&mut self) {
         if self.random.percent(75) {
             self.write(0x4201, &[1]);
             self.fill_slots();
@@ -251,12 +232,8 @@ impl Session {
     fn reset_in_mid_ramp(&mut self) {
         let base = self.base();
         let [first, second, _] = self.levels;
-        let table = self.tables[0];
         let words = [self.value(), 3, self.value(), 2, self.value(), 0];
-        self.write(base + 128 * table, &words);
-        self.write(base + 0x800 + first, &[table]);
-        self.set_delay(base, first, 10);
-        self.write(base + 0xA00, &[1]);
+        self.ready_ramp(base, first, &words);
         self.trigger_level(first);
         let ticks = self.random.below(64);
         self.run(ticks);
@@ -265,7 +242,7 @@ impl Session {
             self.trigger_level(second);
         }
         self.begin_anew();
-        self.read(base + 128 * table, 6);
+        self.read(base + 128 * self.tables[0], 6);
         self.read_active();
         for _ in 0..self.random.within(1, 4) {
             self.read_status();

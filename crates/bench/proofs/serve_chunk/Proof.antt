@@ -9,7 +9,7 @@ use Rattle.bench.proofs.serve_chunk.Tie as tie
 
 abbrev Inv-loop : tie.InvT-loop
 Inv-loop settings₀ tables₀ waves₀ line₀ out₀ held chunk k₀ h₀ end₀ i₀ settings tables waves line out k h end i =
-    (i ≤ length chunk) × (end ≤ 49142) × (length line ≡ length line₀) × (length out ≡ length out₀)
+    (i ≤ length chunk) × (end ≤ 49139) × (length line ≡ length line₀) × (length out ≡ length out₀)
 
 abbrev μ-loop : tie.MeasureT-loop
 μ-loop settings₀ tables₀ waves₀ line₀ out₀ held chunk k₀ h₀ end₀ i₀ settings tables waves line out k h end i = length chunk - i

@@ -69,8 +69,8 @@ slice-aggregate-write c =
 write-requires : tie.Need-write-requires
 write-requires c κs = search needs
 
-put-answer-requires : tie.Need-put-answer-requires
-put-answer-requires c κs = search needs
+put-reply-requires : tie.Need-put-reply-requires
+put-reply-requires c κs = search needs
 
 same-length-4 : tie.Need-same-length-4
 same-length-4 c = search needs
@@ -102,6 +102,6 @@ write-slice-spec =
     array-share-prefix-words
     slice-aggregate-write
     write-requires
-    put-answer-requires
+    put-reply-requires
     same-length-4
     returns-4)

@@ -1,68 +1,31 @@
--- `transfer::read` meets its contract: numbers 1, 2 and 3 once, then the words. Assumes nothing.
+-- `transfer::read` meets its contract: the words, and where they stopped, within 16 bits. Assumes nothing.
 use borrow.Author.Needs.{needs}
-use mathlib.Core.Path.{_∙_, ap}
-use Rattle.transfer.specs.Transfer.{Filled}
-use Rattle.transfer.proofs.Loops.{good-count, read-bad, read-none, read-shut, read-open}
+use mathlib.Core.Path.{sym, ap, _∙_, subst}
+use Prim.Native.Nat.{_+_, _<_}
+use Rattle.transfer.specs.declared.Answer.{Answer}
+use Rattle.transfer.specs.Transfer.{processedOf, replyOf}
+use Rattle.transfer.proofs.Stops.{read-fits}
 use Rattle.transfer.proofs.read.Statement.{statement}
 use Rattle.transfer.proofs.read.Tie as tie
 
-bad-count-requires : tie.Need-bad-count-requires
-bad-count-requires c κs = search needs
+read-from-requires : tie.Need-read-from-requires
+read-from-requires c κs = search needs
 
-returns : tie.Need-returns
-returns c =
-    let a = c .before .before .before .args in
-    let e = read-bad (a .start) (a .count) (a .words .now) _ (c .before .bad-count .ensures) (a .settings .now) (a .card) (c .if1 .taken) in
-    (ap (λ (f : Filled). f .answer) e, ap (λ (f : Filled). f .words) e)
-
-region-of-requires : tie.Need-region-of-requires
-region-of-requires c κs = search needs
-
-enum-told : tie.Need-enum-told
-enum-told c = search needs
-
-enum-known-r : tie.Need-enum-known-r
-enum-known-r c = search needs
-
-may-read-requires : tie.Need-may-read-requires
-may-read-requires c κs = search needs
-
-read-words-requires : tie.Need-read-words-requires
-read-words-requires c κs = let a = c .before .before .before .before .before .before .before .before .before .before .args in good-count (a .count) _ (c .before .before .before .before .before .before .before .before .bad-count .ensures) (c .before .before .before .before .before .before .before .if1 .left) .1
-
-returns-2 : tie.Need-returns-2
-returns-2 c =
-    let a = c .before .before .before .before .before .before .args in
-    let e = read-none (a .start) (a .count) (a .words .now) _ (c .before .before .before .before .bad-count .ensures) (a .settings .now) (a .card) (c .before .before .before .if1 .left) _ (c .before .before .region-of .ensures) (c .enum-told .given .1) in
-    (ap (λ (f : Filled). f .answer) e, ap (λ (f : Filled). f .words) e)
+replied-requires : tie.Need-replied-requires
+replied-requires c κs =
+    let a = c .before .before .before .before .before .args in
+    let h : a .start < 65536 = search needs in
+    subst (λ (x : Answer). a .start + processedOf x < 65536) (sym (c .before .before .read-from .ensures .0))
+    (read-fits (a .settings .now) (a .card) (a .start) (a .count) (a .words .now) h)
 
 same-length : tie.Need-same-length
 same-length c = search needs
 
-returns-3 : tie.Need-returns-3
-returns-3 c =
-    let a = c .before .before .before .before .before .before .before .before .before .before .before .before .before .args in
-    let e = read-open (a .start) (a .count) (a .words .now) _ (c .before .before .before .before .before .before .before .before .before .before .before .bad-count .ensures) (a .settings .now) (a .card) (c .before .before .before .before .before .before .before .before .before .before .if1 .left) _ (c .before .before .before .before .before .before .before .before .before .region-of .ensures) _ (c .before .before .before .before .before .before .before .r .given .1) _ (c .before .before .before .before .before .may-read .ensures) (c .before .before .before .before .if2 .taken) in
-    (c .before .before .read-words .ensures .0 ∙ ap (λ (f : Filled). f .answer) e, c .before .before .read-words .ensures .1 ∙ ap (λ (f : Filled). f .words) e)
-
-returns-4 : tie.Need-returns-4
-returns-4 c =
-    let a = c .before .before .before .before .before .before .before .before .before .args in
-    let e = read-shut (a .start) (a .count) (a .words .now) _ (c .before .before .before .before .before .before .before .bad-count .ensures) (a .settings .now) (a .card) (c .before .before .before .before .before .before .if1 .left) _ (c .before .before .before .before .before .region-of .ensures) _ (c .before .before .before .r .given .1) _ (c .before .may-read .ensures) (c .if2 .left) in
-    (ap (λ (f : Filled). f .answer) e, ap (λ (f : Filled). f .words) e)
+returns : tie.Need-returns
+returns c =
+    let a = c .before .before .before .before .before .before .args in
+    let r = c .before .before .before .read-from .ensures in
+    (c .replied .ensures ∙ ap (replyOf (a .start)) (r .0), r .1)
 
 pub read-spec : {M : Type 1} → statement M
-read-spec =
-    tie.close
-    (tie.spec
-    bad-count-requires
-    returns
-    region-of-requires
-    enum-told
-    enum-known-r
-    may-read-requires
-    read-words-requires
-    returns-2
-    same-length
-    returns-3
-    returns-4)
+read-spec = tie.close (tie.spec read-from-requires replied-requires same-length returns)

@@ -7,7 +7,7 @@ use native.Mathlib.Omega.{arith}
 use lib.ListN.{getD, take, drop}
 use Rattle.card.specs.Card.{State, state}
 use Rattle.transfer.specs.Word.{One, one, writeWord}
-use Rattle.transfer.specs.Transfer.{Out, written, writeWords}
+use Rattle.transfer.specs.Transfer.{Out, outcomeOf, writeWords}
 use Rattle.transfer.proofs.Loops.{made, write-start, write-end, write-beyond, write-stop, write-on}
 use Rattle.transfer.proofs.write_words.Statement.{statement}
 use Rattle.transfer.proofs.write_words.Tie as tie
@@ -32,7 +32,7 @@ returns c =
     let a = c .before .before .before .before .before .args in
     let t = c .before .before .before .loop in
     let e = sym (write-beyond (state (t .k) (t .settings) (t .tables)) (a .start) (a .last) (a .words .now) (a .count) (t .i) (c .before .before .before .before .before .pre .0) (c .before .before .loop-test .taken) (c .before .if1 .taken)) ∙ t .inv .1 in
-    (c .ended .ensures ∙ ap written e, ap (λ (o : Out). o .state .settings) e, ap (λ (o : Out). o .state .tables) e)
+    (c .ended .ensures ∙ ap outcomeOf e, ap (λ (o : Out). o .state .settings) e, ap (λ (o : Out). o .state .tables) e)
 
 cast-write-word : tie.Need-cast-write-word Inv-loop μ-loop
 cast-write-word c = search needs
@@ -61,7 +61,7 @@ returns-2 c =
     let o : One = one (state (w .result .card) (w .last .0) (w .last .1 .0)) (w .result .verdict) in
     let is : o ≡ writeWord st (a .start + t .i) (getD (a .words .now) (t .i) 0) = made _ (w .ensures .0) (w .ensures .1) (w .ensures .2) (w .ensures .3) ∙ ap (writeWord st (a .start + t .i)) (c .before .before .before .before .before .before .get .ensures) in
     let e = sym (write-stop st (a .start) (a .last) (a .words .now) (a .count) (t .i) (c .before .before .before .before .before .before .before .before .before .before .before .before .before .pre .0) (c .before .before .before .before .before .before .before .before .before .before .loop-test .taken) (c .before .before .before .before .before .before .before .before .before .if1 .left) o is _ (c .before .before .v .given .1)) ∙ t .inv .1 in
-    (c .ended2 .ensures ∙ ap written e, ap (λ (x : Out). x .state .settings) e, ap (λ (x : Out). x .state .tables) e)
+    (c .ended2 .ensures ∙ ap outcomeOf e, ap (λ (x : Out). x .state .settings) e, ap (λ (x : Out). x .state .tables) e)
 
 add-i : tie.Need-add-i Inv-loop μ-loop
 add-i c = search needs
@@ -88,7 +88,7 @@ returns-3 c =
     let a = c .before .before .before .before .args in
     let t = c .before .before .loop in
     let e = sym (write-end (state (t .k) (t .settings) (t .tables)) (a .start) (a .last) (a .words .now) (a .count) (t .i) (c .before .before .before .before .pre .0) (le-antisymm (t .inv .0) (c .before .loop-test .left))) ∙ t .inv .1 in
-    (c .ended3 .ensures ∙ ap written e, ap (λ (o : Out). o .state .settings) e, ap (λ (o : Out). o .state .tables) e)
+    (c .ended3 .ensures ∙ ap outcomeOf e, ap (λ (o : Out). o .state .settings) e, ap (λ (o : Out). o .state .tables) e)
 
 pub write-words-spec : {M : Type 1} → statement M
 write-words-spec =
