@@ -15,10 +15,10 @@ use Rattle.map.specs.Map.{regionOf}
 use Rattle.card.specs.declared.Card.{Card}
 use Rattle.card.specs.Card.{State}
 use Rattle.card.proofs.Ticks.{same-state}
-use Rattle.transfer.specs.declared.Answer.{Answer}
+use Rattle.transfer.specs.declared.Reply.{Reply}
 use Rattle.transfer.specs.declared.Written.{Written}
 use Rattle.transfer.specs.Word.{readWord}
-use Rattle.transfer.specs.Transfer.{Out, Filled, numberOf, processedOf, written, writeOf, readWords, readIn, readOf, badCount, readable}
+use Rattle.transfer.specs.Transfer.{Out, Filled, numberOf, processedOf, replyOf, written, writeOf, readWords, readIn, readOf, badCount, readable}
 use Rattle.line.specs.declared.Frame.{Frame}
 use Rattle.line.specs.declared.Frame.the-variants.{Write, Read, Ticks, Event, Bad}
 use Rattle.line.specs.Frame.{wordsIn, named, frameOf, writeFrame, readFrame, ticksFrame, eventFrame}
@@ -150,22 +150,22 @@ wrote-answers st start count at {ws} {ws′} {s} {l} {o} {o′} {w} {number} {pr
     subst (λ (v : List ℕ). Answers (wrote (writeOf st start count v)) at o o′ s l (record { card = w .card; end = at + 8 })) f r
 
 -- a read of up to 64 words into 64
-module _ (s : List ℕ) (k : Card) (start count : ℕ) (few : count ≤ 64) {a : Answer} {n : ℕ} (ae : a ≡ readOf s k start count (replicate 64 0) .answer) (ne : n ≡ processedOf a) where
+module _ (s : List ℕ) (k : Card) (start count : ℕ) (few : count ≤ 64) {a : Reply} {n : ℕ} (ae : a ≡ replyOf start (readOf s k start count (replicate 64 0) .answer)) (ne : n ≡ processedOf (a .answer)) where
   pub read-few : n ≤ 64
   read-few =
       let b = read-bounds s k start count (replicate 64 0) in
-      let e : n ≡ processedOf (readOf s k start count (replicate 64 0) .answer) = ne ∙ ap processedOf ae in
+      let e : n ≡ processedOf (readOf s k start count (replicate 64 0) .answer) = ne ∙ ap (λ (r : Reply). processedOf (r .answer)) ae in
       omega (arith, b .done, e)
 
   pub read-put : (o : List ℕ) (at : ℕ) {number : ℕ} {ws o₁ o₂ : List ℕ}
-      → ws ≡ readOf s k start count (replicate 64 0) .words → number ≡ numberOf a
+      → ws ≡ readOf s k start count (replicate 64 0) .words → number ≡ numberOf (a .answer)
       → o₁ ≡ sets o at (headOf 0x82 number n) → o₂ ≡ sets o₁ (at + 8) (hexAll (take n ws))
       → Puts (readText (readOf s k start count (replicate 64 0))) at o o₂ (at + 8 + 4 * n)
   read-put o at {number} {ws} {o₁} {o₂} we x p q =
       let f : Filled = readOf s k start count (replicate 64 0) in
       let b = read-bounds s k start count (replicate 64 0) in
-      let m : n ≡ processedOf (f .answer) = ne ∙ ap processedOf ae in
-      let y : number ≡ numberOf (f .answer) = x ∙ ap numberOf ae in
+      let m : n ≡ processedOf (f .answer) = ne ∙ ap (λ (r : Reply). processedOf (r .answer)) ae in
+      let y : number ≡ numberOf (f .answer) = x ∙ ap (λ (r : Reply). numberOf (r .answer)) ae in
       let z : length (replicate {A = ℕ} 64 0) ≡ 64 = refl in
       let l : length (take (processedOf (f .answer)) (f .words)) ≡ processedOf (f .answer) = length-take-le _ (f .words) (omega (arith, b .done, b .size)) in
       let h : List ℕ = headOf 0x82 (numberOf (f .answer)) (processedOf (f .answer)) in

@@ -269,7 +269,8 @@ fn answer_write(
     let mut buffer = [0u16; 64];
     digits::words(line, 6, count as u16, &mut buffer);
     let w = transfer::write(settings, tables, card, start, count, &buffer[..count]);
-    let answer = w.reply.answer;
+    let reply = w.reply;
+    let answer = reply.answer;
     put_head(
         out,
         at,
@@ -297,8 +298,8 @@ fn answer_read(
     ensures { λ r. ⌜ Puts (readText (readOf (lent settings) card start count (replicate 64 0))) at (lent out) (left out) r ⌝ }
 {
     let mut buffer = [0u16; 64];
-    let r = transfer::read(settings, card, start, count, &mut buffer);
-    let answer = r.answer;
+    let reply = transfer::read(settings, card, start, count, &mut buffer);
+    let answer = reply.answer;
     let n = transfer::processed(answer);
     put_head(out, at, 0x82, transfer::number(answer), n);
     digits::put_words(out, at + 8, &buffer, n as u16);

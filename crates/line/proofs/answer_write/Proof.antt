@@ -46,19 +46,19 @@ processed-requires c κs = search needs
 put-head-requires : tie.Need-put-head-requires
 put-head-requires c κs = search needs
 
-add-t23 : tie.Need-add-t23
-add-t23 c = search needs
+add-t24 : tie.Need-add-t24
+add-t24 c = search needs
 
 same-length : tie.Need-same-length
 same-length c = search needs
 
 returns : tie.Need-returns
 returns c =
-    let a = c .before .before .before .before .before .before .before .before .before .before .before .before .before .before .before .before .args in
-    let l : List ℕ = c .before .before .before .before .before .before .before .before .before .before .before .before .words .last .1 .1 .1 .0 in
+    let a = c .before .before .before .before .before .before .before .before .before .before .before .before .before .before .before .before .before .args in
+    let l : List ℕ = c .before .before .before .before .before .before .before .before .before .before .before .before .before .words .last .1 .1 .1 .0 in
     let st : State = state (a .card) (a .settings .now) (a .tables .now) in
-    let e : take (a .count) l ≡ wordsOf (a .count) (a .line .now) = ap (take (a .count)) (c .before .before .before .before .before .before .before .before .before .before .before .before .words .ensures) ∙ take-sets (replicate 64 0) (wordsOf (a .count) (a .line .now)) (a .count) (length-words 6 (a .count) (a .line .now)) (omega (arith, c .before .before .before .before .before .before .before .before .before .before .before .before .before .before .before .before .pre .1)) in
-    let w = c .before .before .before .before .before .before .before .write .ensures in
+    let e : take (a .count) l ≡ wordsOf (a .count) (a .line .now) = ap (take (a .count)) (c .before .before .before .before .before .before .before .before .before .before .before .before .before .words .ensures) ∙ take-sets (replicate 64 0) (wordsOf (a .count) (a .line .now)) (a .count) (length-words 6 (a .count) (a .line .now)) (omega (arith, c .before .before .before .before .before .before .before .before .before .before .before .before .before .before .before .before .before .pre .1)) in
+    let w = c .before .before .before .before .before .before .before .before .write .ensures in
     wrote-answers st (a .start) (a .count) (a .at) e (w .0) (w .1) (w .2) (c .before .before .before .before .before .number .ensures) (c .before .before .before .before .processed .ensures) (c .before .before .before .put-head .ensures)
 
 pub answer-write-spec : {M : Type 1} → statement M
@@ -74,6 +74,6 @@ answer-write-spec =
     number-requires
     processed-requires
     put-head-requires
-    add-t23
+    add-t24
     same-length
     returns)
