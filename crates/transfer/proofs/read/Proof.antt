@@ -1,8 +1,8 @@
 -- `transfer::read` meets its contract: the words, and where they stopped, within 16 bits. Assumes nothing.
 use borrow.Author.Needs.{needs}
-use mathlib.Core.Path.{sym, ap, _∙_, subst}
-use Prim.Native.Nat.{_+_, _<_}
-use Rattle.transfer.specs.declared.Answer.{Answer}
+use mathlib.Core.Path.{ap, _∙_}
+use Prim.Native.Nat.{_<_}
+use native.Mathlib.Omega.{arith}
 use Rattle.transfer.specs.Transfer.{processedOf, replyOf}
 use Rattle.transfer.proofs.Stops.{read-fits}
 use Rattle.transfer.proofs.read.Statement.{statement}
@@ -15,8 +15,9 @@ replied-requires : tie.Need-replied-requires
 replied-requires c κs =
     let a = c .before .before .before .before .before .args in
     let h : a .start < 65536 = search needs in
-    subst (λ (x : Answer). a .start + processedOf x < 65536) (sym (c .before .before .read-from .ensures .0))
-    (read-fits (a .settings .now) (a .card) (a .start) (a .count) (a .words .now) h)
+    let f = read-fits (a .settings .now) (a .card) (a .start) (a .count) (a .words .now) h in
+    let e = ap processedOf (c .before .before .read-from .ensures .0) in
+    omega (arith, e, f)
 
 same-length : tie.Need-same-length
 same-length c = search needs

@@ -1,9 +1,9 @@
 -- `transfer::write` meets its contract: the words, and where they stopped, within 16 bits. Assumes nothing.
 use borrow.Author.Needs.{needs}
-use mathlib.Core.Path.{sym, ap, _∙_, subst}
-use Prim.Native.Nat.{_+_, _<_}
+use mathlib.Core.Path.{ap, _∙_}
+use Prim.Native.Nat.{_<_}
+use native.Mathlib.Omega.{arith}
 use Rattle.card.specs.Card.{state}
-use Rattle.transfer.specs.declared.Answer.{Answer}
 use Rattle.transfer.specs.declared.Reply.{Reply}
 use Rattle.transfer.specs.declared.Written.{Written}
 use Rattle.transfer.specs.declared.Outcome.{Outcome}
@@ -19,9 +19,9 @@ replied-requires : tie.Need-replied-requires
 replied-requires c κs =
     let a = c .before .before .before .before .before .args in
     let h : a .start < 65536 = search needs in
-    let w = c .before .write-from in
-    subst (λ (x : Answer). a .start + processedOf x < 65536) (sym (ap (λ (x : Outcome). x .answer) (w .ensures .0)))
-    (write-fits (state (a .card) (a .settings .now) (a .tables .now)) (a .start) (a .count) (a .words .now) h)
+    let f = write-fits (state (a .card) (a .settings .now) (a .tables .now)) (a .start) (a .count) (a .words .now) h in
+    let e = ap (λ (x : Outcome). processedOf (x .answer)) (c .before .write-from .ensures .0) in
+    omega (arith, e, f)
 
 returns : tie.Need-returns
 returns c =
