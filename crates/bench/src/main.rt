@@ -13,6 +13,7 @@ use sum::Edition;
 use transfer::Reply;
 ghost use Prim.Native.Nat.{_+_, _≤_, _<_};
 ghost use lib.ListN.{length};
+ghost use Rattle.bench.specs.Room.{longest, Short};
 
 // After a chunk: the card, how many bytes of the open line are held, and whether to go on.
 struct Turn {
@@ -174,7 +175,7 @@ fn end_line(
     card: Card,
 ) -> Answered
     requires { ⌜ (at ≤ 49139) × (65536 ≤ length (now out)) ⌝ }
-    ensures { λ r. ⌜ r .end ≤ at + 16397 ⌝ }
+    ensures { λ r. ⌜ r .end ≤ at + longest + 1 ⌝ }
 {
     let n = word::least(held, line.len());
     let a = answer(settings, tables, waves, card, &line[..n], &mut out[at..]);
@@ -225,7 +226,7 @@ fn answer(
     line: &[u8],
     out: &mut [u8],
 ) -> Answered
-    ensures { λ r. ⌜ r .end ≤ 16396 ⌝ }
+    ensures { λ r. ⌜ Short r ⌝ }
 {
     if !digits::all_digits(line) {
         return bad(card, out);
@@ -246,7 +247,7 @@ fn answer(
 
 // FF: the line is no frame.
 fn bad(card: Card, out: &mut [u8]) -> Answered
-    ensures { λ r. ⌜ r .end ≤ 16396 ⌝ }
+    ensures { λ r. ⌜ Short r ⌝ }
 {
     digits::put2(out, 0, 0xFF);
     Answered { card: card, end: 2 }
@@ -254,7 +255,7 @@ fn bad(card: Card, out: &mut [u8]) -> Answered
 
 // 10, channel, words: the wave table of a channel. A line of 16,394 digits has 4,097 words at most.
 fn hand_in(waves: &mut [u16; 4096], card: Card, line: &[u8], out: &mut [u8]) -> Answered
-    ensures { λ r. ⌜ r .end ≤ 16396 ⌝ }
+    ensures { λ r. ⌜ Short r ⌝ }
 {
     let n = line.len();
     if n < 4 {
@@ -283,7 +284,7 @@ fn write_slice(
     line: &[u8],
     out: &mut [u8],
 ) -> Answered
-    ensures { λ r. ⌜ r .end ≤ 16396 ⌝ }
+    ensures { λ r. ⌜ Short r ⌝ }
 {
     let n = line.len();
     if n < 10 {
@@ -317,7 +318,7 @@ fn write_slice(
 
 // 12, start, count, length up to 1000 (hex), fill: a read into a slice of that length, and the whole slice.
 fn read_slice(settings: &[u16; 16960], card: Card, line: &[u8], out: &mut [u8]) -> Answered
-    ensures { λ r. ⌜ r .end ≤ 16396 ⌝ }
+    ensures { λ r. ⌜ Short r ⌝ }
 {
     if line.len() != 18 {
         return bad(card, out);
@@ -368,7 +369,7 @@ fn put_reply(out: &mut [u8], name: usize, reply: Reply) {
 
 // 15, length (8) up to 10000 (hex): the settings saved as lines, into a buffer of that many bytes, each 55 (hex) before.
 fn save(settings: &[u16; 16960], card: Card, line: &[u8], out: &mut [u8]) -> Answered
-    ensures { λ r. ⌜ r .end ≤ 16396 ⌝ }
+    ensures { λ r. ⌜ Short r ⌝ }
 {
     if line.len() != 10 {
         return bad(card, out);
@@ -417,7 +418,7 @@ fn reduced(sum: usize) -> usize
 
 // 16: whether the bench keeps the profile: 9600, or 9601, channel (2), level (2).
 fn check(settings: &[u16; 16960], card: Card, line: &[u8], out: &mut [u8]) -> Answered
-    ensures { λ r. ⌜ r .end ≤ 16396 ⌝ }
+    ensures { λ r. ⌜ Short r ⌝ }
 {
     if line.len() != 2 {
         return bad(card, out);
@@ -445,7 +446,7 @@ fn fresh(
     line: &[u8],
     out: &mut [u8],
 ) -> Answered
-    ensures { λ r. ⌜ r .end ≤ 16396 ⌝ }
+    ensures { λ r. ⌜ Short r ⌝ }
 {
     if line.len() != 4 {
         return bad(card, out);
@@ -465,7 +466,7 @@ fn fresh_card(
     edition: Edition,
     out: &mut [u8],
 ) -> Answered
-    ensures { λ r. ⌜ r .end ≤ 16396 ⌝ }
+    ensures { λ r. ⌜ Short r ⌝ }
 {
     digits::put2(out, 0, 0x97);
     Answered {
@@ -483,7 +484,7 @@ fn reset(
     line: &[u8],
     out: &mut [u8],
 ) -> Answered
-    ensures { λ r. ⌜ r .end ≤ 16396 ⌝ }
+    ensures { λ r. ⌜ Short r ⌝ }
 {
     if line.len() != 2 {
         return bad(card, out);
@@ -497,7 +498,7 @@ fn reset(
 
 // 1B, channel, table, point: volts × 32768 and microseconds of a plotted point, or none.
 fn plot(settings: &[u16; 16960], card: Card, line: &[u8], out: &mut [u8]) -> Answered
-    ensures { λ r. ⌜ r .end ≤ 16396 ⌝ }
+    ensures { λ r. ⌜ Short r ⌝ }
 {
     if line.len() != 8 {
         return bad(card, out);
@@ -531,7 +532,7 @@ fn put_point(out: &mut [u8], p: Plotted) {
 
 // 1C, address, word: what the panel shows, as a kind and a value.
 fn show(card: Card, line: &[u8], out: &mut [u8]) -> Answered
-    ensures { λ r. ⌜ r .end ≤ 16396 ⌝ }
+    ensures { λ r. ⌜ Short r ⌝ }
 {
     if line.len() != 10 {
         return bad(card, out);
@@ -560,7 +561,7 @@ fn put_reading(out: &mut [u8], kind: usize, value: usize) {
 
 // Eight digits: two words of four.
 fn put8(out: &mut [u8], at: usize, x: usize)
-    requires { ⌜ at ≤ 16396 ⌝ }
+    requires { ⌜ at ≤ longest ⌝ }
 {
     digits::put4(out, at, x / 65536);
     digits::put4(out, at + 4, x);

@@ -1,0 +1,10 @@
+-- The room that an answer takes.
+use Prim.Native.Nat.{ℕ, _≤_}
+use Rattle.line.specs.declared.Answered.{Answered}
+
+-- the longest: 92, number, processed, address, and 4,096 words, four digits each
+abbrev pub longest : ℕ
+longest = 16396
+
+abbrev pub Short : Answered → Type 0
+Short r = r .end ≤ longest
