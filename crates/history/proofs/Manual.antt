@@ -29,16 +29,16 @@ region-4202 : regionOf 0x4202 ≡ At (record { first = 0x4202; last = 0x4202; ac
 unfolding cardRows scan
 region-4202 = rw (in-card 0x4202 (omega arith))
 
-alone : (q : Region) → regionOf 0x4202 ≡ At q → (q .first ≡ 0x4202) × (q .last ≡ 0x4202)
-alone q e = (first, last)
+pub alone : (a : ℕ) (q : Region) → regionOf a ≡ At (record { first = a; last = a; access = A.Write }) → regionOf a ≡ At q → (q .first ≡ a) × (q .last ≡ a)
+alone a q own e = (first, last)
   where
-    same : At (record { first = 0x4202; last = 0x4202; access = A.Write }) ≡ At q
-    same = sym region-4202 ∙ e
+    same : At (record { first = a; last = a; access = A.Write }) ≡ At q
+    same = sym own ∙ e
 
-    first : q .first ≡ 0x4202
+    first : q .first ≡ a
     first = cc (same)
 
-    last : q .last ≡ 0x4202
+    last : q .last ≡ a
     last = cc (same)
 
 -- where a word done at 0x4202 stands among the words done
@@ -52,7 +52,7 @@ reaches a v (w ∷ vs) e = go (eqb a 0x4202) refl e (reaches (a + 1) v vs)
     go false f e r = let y = r e in (omega (arith, y .0), omega (arith, y .1))
 
 -- all words done lie in the region
-inside : (q : Region) (st : State) (a : ℕ) (vs : List ℕ) → AllDone q st a vs → 1 ≤ length vs → a + length vs ≤ q .last + 1
+pub inside : (q : Region) (st : State) (a : ℕ) (vs : List ℕ) → AllDone q st a vs → 1 ≤ length vs → a + length vs ≤ q .last + 1
 inside q st a [] d h = absurd (omega arith)
 inside q st a (v ∷ []) d h = omega (arith, d .0 .0)
 inside q st a (v ∷ w ∷ vs) d h = omega (arith, inside q (performOf st a (effectOf (registerOf a) v)) (a + 1) (w ∷ vs) (d .1) (omega arith))
@@ -84,7 +84,7 @@ manual-alone st start count ws v f = go (regionOf start) refl (written st start 
         let p = reaches start v (wordsDone st start count ws) f in
         let i = inside q st start (wordsDone st start count ws) (y .all q refl) (omega arith) in
         let x = lies start q e in
-        let z = alone q (same-region start 0x4202 q e (omega arith) (omega arith)) in
+        let z = alone 0x4202 q region-4202 (same-region start 0x4202 q e (omega arith) (omega arith)) in
         record { here = omega arith; few = omega arith }
 
 -- AND IS THE MANUAL TRIGGER

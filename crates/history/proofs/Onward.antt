@@ -1,16 +1,16 @@
 -- A write of ws and then vs is the write of ws and, that being answered 0, the write of vs from the address it gave (`parts`); so writing on
--- from the address that any write gave is as if the words had followed those done (`mended`). Assumes nothing.
+-- from the address that any write gave is as if the words had followed those done (`mended`). With it the whole of request Seven (`stops`).
+-- Assumes nothing.
 use mathlib.Core.Path.{_≡_, refl, sym, ap, _∙_, subst}
-use mathlib.Core.Bool.{Bool, true, false, not, cond}
+use mathlib.Core.Bool.{Bool, true, false, cond}
 use mathlib.Core.List.{List, [], _∷_, _++_}
-use Prim.Native.Nat.{ℕ, zero, suc, _+_, _≤_, _<_}
+use Prim.Native.Nat.{ℕ, zero, suc, _+_, _≤_}
 use native.Mathlib.Omega.{arith}
 use lib.Dec.{eqb, ltb}
-use lib.ListN.{length, take, length-append}
+use lib.ListN.{length, length-append}
 use lib.Seq.{take-all}
-use borrow.Author.Tests.{ltb-false, le-ltb, ne-eqb, eqb-true}
-use Rattle.map.specs.declared.Found.{Found}
-use Rattle.map.specs.declared.Found.the-variants.{At, Nothing}
+use borrow.Author.Tests.{not-false, le-ltb, ne-eqb, eqb-true}
+use Rattle.map.specs.declared.Found.the-variants.{At}
 use Rattle.map.specs.declared.Region.{Region}
 use Rattle.map.specs.Map.{regionOf, registerOf}
 use Rattle.map.proofs.Regions.{lies, same-region}
@@ -21,14 +21,14 @@ use Rattle.transfer.specs.declared.Verdict.{Verdict}
 use Rattle.transfer.specs.declared.Verdict.the-variants as D
 use Rattle.transfer.specs.declared.Answer.{Answer}
 use Rattle.transfer.specs.declared.Answer.the-variants.{Done, BadCount, NoRegion, NoAccess, Beyond, Refused}
-use Rattle.transfer.specs.Word.{judgeOf, effectOf, performOf, writeWord}
+use Rattle.transfer.specs.Word.{effectOf, performOf, writeWord}
 use Rattle.transfer.specs.Transfer.{Out, out, numberOf, processedOf, addressOf, badCount, writable, goOn, writeWords, writeOf}
 use Rattle.transfer.proofs.Stops.{address-is}
 use Rattle.history.specs.History.{wordsDone, doneFrom}
-use Rattle.history.specs.Numbers.{case, first, once, writeRefusal, Given, Once, Stopped, All}
+use Rattle.history.specs.Numbers.{first, once, writeRefusal, Given, Once, Stopped, All}
 use Rattle.history.specs.Stops.{stopOf, writeAll, writeOn, countedOn, joined, andThen, Follow, WritesOn, Stops}
 use Rattle.history.proofs.Writing.{AllDone, written}
-use Rattle.history.proofs.Stops.{all-done, write-stops-at, read-stops-at, done-length, done-below}
+use Rattle.history.proofs.Stops.{all-done, write-stops-at, read-stops-at, once-free, done-length, done-below, read-below}
 
 -- ---- the words
 
@@ -212,16 +212,11 @@ module _ (st : State) (start count : ℕ) (ws vs : List ℕ) where
       ∙ ap (λ (n : ℕ). onFrom (doneFrom st start done) (start + length done) n vs) p-is
 
   -- a word was done, so the region may be written
-  open-by : (b w : Bool) → first (case 1 b ∷ case 2 false ∷ case 3 (not w) ∷ []) ≡ 0 → w ≡ true
-  open-by true w e = absurd (omega arith)
-  open-by false true e = refl
-  open-by false false e = absurd (omega arith)
-
   may-write : (q : Region) → regionOf start ≡ At q → 1 ≤ length done → writable (q .access) ≡ true
   may-write q e h = go (written st start count ws .given)
     where
       at-once : first (once writable (regionOf start) count ws) ≡ 0 → writable (q .access) ≡ true
-      at-once f = open-by (badCount count (length ws)) (writable (q .access)) (rw e at f)
+      at-once f = not-false (writable (q .access)) (rw e at (once-free writable (regionOf start) count ws f .1))
 
       go : Given (first (once writable (regionOf start) count ws)) (writeRefusal (regionOf start) st start ws) count (numberOf (was .answer)) (processedOf (was .answer))
           → writable (q .access) ≡ true
@@ -251,20 +246,26 @@ module _ (st : State) (start count : ℕ) (ws vs : List ℕ) where
       rw (e, z, counted-from-0 (writeAll (doneFrom st start done) start vs .answer))
   same-address h (suc n) e = address-on start (length done) vs h (may-write (h .region) (h .found) (omega arith)) (doneFrom st start done)
 
-  address-there : Follow start (length done) vs → addressOf start (joined start was vs .answer) ≡ addressOf (stopOf st start count ws) (writeOn start was vs .answer)
+  mended-all : Follow start (length done) vs → writeAll st start (done ++ vs) ≡ joined start was vs
+  mended-all h = mended _ refl h ∙ sym joined-is
+
+  address-there : Follow start (length done) vs
+      → addressOf start (writeAll st start (done ++ vs) .answer) ≡ addressOf (stopOf st start count ws) (writeOn start was vs .answer)
   address-there h =
-      ap (λ (x : Out). addressOf start (x .answer)) joined-is ∙ same-address h _ refl
-      ∙ sym (ap (λ (x : State). addressOf (stopOf st start count ws) (writeAll x (stopOf st start count ws) vs .answer)) (written st start count ws .done) ∙ ap (λ (a : ℕ). addressOf a (writeAll (doneFrom st start done) a vs .answer)) a-is)
+      ap (λ (x : Out). addressOf start (x .answer)) (mended _ refl h) ∙ same-address h _ refl
+      ∙ sym
+      (ap (λ (x : State). addressOf (stopOf st start count ws) (writeAll x (stopOf st start count ws) vs .answer)) (written st start count ws .done)
+      ∙ ap (λ (a : ℕ). addressOf a (writeAll (doneFrom st start done) a vs .answer)) a-is)
 
 -- WRITING ON FROM THE ADDRESS GIVEN IS WRITING ON
 pub writes-on : WritesOn
 writes-on =
     record {
       parts = parts;
-      mended = λ st start count ws vs h. mended st start count ws vs _ refl h ∙ sym (joined-is st start count ws vs);
+      mended = mended-all;
       address = address-there;
     }
 
 -- WHERE IT STOPPED
 pub stops : Stops
-stops = record { writes = write-stops-at; reads = read-stops-at; done = done-below; on = writes-on }
+stops = record { writes = write-stops-at; reads = read-stops-at; done = done-below; read = read-below; on = writes-on }

@@ -1,47 +1,45 @@
--- Where a transfer stopped: the address it gives (`stops-at`), what a write has done below it (`done-below`), and that writing on from it
--- is writing on (`writes-on`). Assumes nothing.
+-- Where a transfer stopped: the address that it gives (`write-stops-at`, `read-stops-at`), and what a write has done, and a read has read,
+-- below it (`done-below`, `read-below`). Assumes nothing.
 use mathlib.Core.Path.{_≡_, refl, sym, ap, _∙_, subst}
-use mathlib.Core.Bool.{Bool, true, false, not, _&&_, _||_, cond}
+use mathlib.Core.Bool.{Bool, true, false, not, _&&_, _||_, cond, true≢false}
 use mathlib.Core.List.{List, [], _∷_}
 use Prim.Native.Nat.{ℕ, zero, suc, _+_, _-_, _≤_, _<_}
 use native.Mathlib.Omega.{arith}
 use lib.Dec.{eqb, leb, ltb}
 use lib.ListN.{length, getD, take}
 use lib.Seq.{length-take-le, take-take, getD-take}
-use borrow.Author.Tests.{ltb-true, ltb-false, lt-ltb, le-ltb, leb-true, le-leb, lt-leb, eqb-true, eqb-false}
+use borrow.Author.Tests.{ltb-true, ltb-false, lt-ltb, le-ltb, leb-true, le-leb, lt-leb, ne-eqb, eqb-true, eqb-false}
 use Rattle.map.specs.declared.Found.{Found}
 use Rattle.map.specs.declared.Found.the-variants.{At, Nothing}
 use Rattle.map.specs.declared.Region.{Region}
 use Rattle.map.specs.declared.Register.{Register}
 use Rattle.map.specs.declared.Access.{Access}
-use Rattle.map.specs.Map.{regionOf, registerOf, acceptedAt, inRegion}
-use Rattle.map.specs.Settings.{isFixed}
-use Rattle.map.proofs.Regions.{lies}
+use Rattle.map.specs.declared.Access.the-variants as A
+use Rattle.map.specs.Map.{scan, cardRows, regionOf, registerOf, acceptedAt, inRegion}
+use Rattle.map.specs.Settings.{isFixed, isSetting}
+use Rattle.map.proofs.Blocks.{in-card}
+use Rattle.map.proofs.Regions.{lies, same-region}
 use Rattle.card.specs.Card.{State}
-use Rattle.transfer.specs.declared.Why.{Why}
-use Rattle.transfer.specs.declared.Why.the-variants.{Fixed, Value, Held, Running}
 use Rattle.transfer.specs.declared.Answer.{Answer}
 use Rattle.transfer.specs.declared.Answer.the-variants.{Done, BadCount, NoRegion, NoAccess, Beyond, Refused}
 use Rattle.transfer.specs.Word.{heldAt, runningAt}
-use Rattle.transfer.specs.Transfer.{Out, whyNumber, numberOf, processedOf, addressOf, badCount, writable, readable, writeOf, readOf}
+use Rattle.transfer.specs.Transfer.{Out, numberOf, processedOf, addressOf, replyOf, badCount, writable, readable, writeOf, readOf}
 use Rattle.transfer.proofs.Loops.{good-count}
 use Rattle.transfer.proofs.Stops.{address-is, write-fits, read-fits}
-use Rattle.history.specs.History.{wordsDone, doneFrom}
+use Rattle.history.specs.History.{Write, readBack, wordsDone, doneFrom}
 use Rattle.history.specs.Numbers.{Case, case, first, once, lacks, toWrite, writeRefusal, readRefusal, Given, Once, Stopped, All}
 use Rattle.history.specs.Counted.{WordDone, EachDone, CountedIsDone}
+use Rattle.history.specs.Settings.{wordLeft, leftAt}
 use Rattle.history.specs.Counts.{doesAt}
-use Rattle.history.specs.Stops.{StopsAt, stopOf, wordFor, below, DoneBelow}
-use Rattle.history.proofs.Writing.{written}
+use Rattle.history.specs.Stops.{writeReply, readReply, StopsAt, stopOf, wordFor, below, DoneBelow, ReadBelow}
+use Rattle.history.proofs.Addresses.{manual-register}
+use Rattle.history.proofs.Writing.{why-high, Result, written, no-region}
 use Rattle.history.proofs.Reading.{was-read}
+use Rattle.history.proofs.Manual.{alone, inside}
+use Rattle.history.proofs.Settings.{settings-kept}
 use Rattle.history.proofs.Counted.{counted-is-done}
 
 -- ---- the address
-
-why-high : (why : Why) → 5 ≤ whyNumber why
-why-high Fixed = omega arith
-why-high Value = omega arith
-why-high Held = omega arith
-why-high Running = omega arith
 
 once-at-start : (start : ℕ) (w : Answer) → 1 ≤ numberOf w → numberOf w ≤ 3 → addressOf start w ≡ start
 once-at-start start (Done n) f g = absurd (omega arith)
@@ -79,8 +77,8 @@ module _ (last a : ℕ) where
       go true e = (λ g. ltb-true last a e, λ g. absurd (omega arith))
       go false e = (λ g. absurd (n g), λ g. ltb-false last a e)
 
-write-beyond : (q : Region) (x : State) (a v : ℕ) → (first (toWrite (At q) x a v) ≡ 4 → q .last < a) × (first (toWrite (At q) x a v) ≡ 0 → a ≤ q .last)
-write-beyond q x a v = beyond-alone (q .last) a rest (not-4 (isFixed r) (not (acceptedAt a v)) (heldAt (x .settings) r v) (runningAt (x .card) r))
+four-beyond : (q : Region) (x : State) (a v : ℕ) → (first (toWrite (At q) x a v) ≡ 4 → q .last < a) × (first (toWrite (At q) x a v) ≡ 0 → a ≤ q .last)
+four-beyond q x a v = beyond-alone (q .last) a rest (not-4 (isFixed r) (not (acceptedAt a v)) (heldAt (x .settings) r v) (runningAt (x .card) r))
   where
     r : Register
     r = registerOf a
@@ -110,7 +108,7 @@ module _ (start count o : ℕ) (f : ℕ → ℕ) (w : Answer) (g : Given o f cou
       go (Stopped a b c d h) = by (processedOf w) (processedOf w) refl (d ∙ e) c
       go (All a b c d) = absurd (omega arith)
 
-  stops-at : o < 4 → ((q : Region) → regionOf start ≡ At q → FourBeyond f start (q .last)) → (start < 65536 → start + processedOf w < 65536) → StopsAt start count w
+  stops-at : o < 4 → ((q : Region) → regionOf start ≡ At q → FourBeyond f start (q .last)) → (start < 65536 → start + processedOf w < 65536) → StopsAt start count (replyOf start w)
   stops-at low four fits =
       record {
         once = once-at-start start w;
@@ -120,14 +118,14 @@ module _ (start count o : ℕ) (f : ℕ → ℕ) (w : Answer) (g : Given o f cou
         fits = λ h. subst (λ (a : ℕ). a < 65536) (sym (address-is start w)) (fits h);
       }
 
-pub write-stops-at : (st : State) (start count : ℕ) (ws : List ℕ) → StopsAt start count (writeOf st start count ws .answer)
+pub write-stops-at : (st : State) (start count : ℕ) (ws : List ℕ) → StopsAt start count (writeReply st start count ws)
 write-stops-at st start count ws =
     stops-at start count _ (writeRefusal (regionOf start) st start ws) _ (written st start count ws .given) (once-low writable (regionOf start) count ws) four (write-fits st start count ws)
   where
     four : (q : Region) → regionOf start ≡ At q → FourBeyond (writeRefusal (regionOf start) st start ws) start (q .last)
-    four q e i = rw e (write-beyond q (doneFrom st start (take i ws)) (start + i) (getD ws i 0))
+    four q e i = rw e (four-beyond q (doneFrom st start (take i ws)) (start + i) (getD ws i 0))
 
-pub read-stops-at : (st : State) (start count : ℕ) (ws : List ℕ) → StopsAt start count (readOf (st .settings) (st .card) start count ws .answer)
+pub read-stops-at : (st : State) (start count : ℕ) (ws : List ℕ) → StopsAt start count (readReply st start count ws)
 read-stops-at st start count ws =
     stops-at start count _ (readRefusal (regionOf start) start) _ (was-read st start count ws .given) (once-low readable (regionOf start) count ws) four
     (read-fits (st .settings) (st .card) start count ws)
@@ -170,13 +168,28 @@ each-at x a [] y d i h = absurd (omega arith)
 each-at x a (v ∷ vs) y d zero h = let e : a + 0 ≡ a = omega arith in rw e (d .0)
 each-at x a (v ∷ vs) y d (suc i) h = let e : a + suc i ≡ a + 1 + i = omega arith in rw e (each-at _ (a + 1) vs y (d .1) i (omega arith))
 
--- a transfer that is not refused at once has its words
-counted : (r : Found) (count : ℕ) (ws : List ℕ) → first (once writable r count ws) ≡ 0 → count ≤ length ws
-counted r count ws = go (badCount count (length ws)) refl
-  where
-    go : (b : Bool) → badCount count (length ws) ≡ b → first (case 1 b ∷ case 2 (not (inRegion r)) ∷ case 3 (lacks writable r) ∷ []) ≡ 0 → count ≤ length ws
-    go true e f = absurd (omega arith)
-    go false e f = good-count count (length ws) (sym e) refl .0
+-- a transfer that is not refused at once has its words, and its region the access
+module _ (may : Access → Bool) (r : Found) (count : ℕ) (ws : List ℕ) (free : first (once may r count ws) ≡ 0) where
+  pub once-free : (count ≤ length ws) × (lacks may r ≡ false)
+  once-free = go (badCount count (length ws)) refl (not (inRegion r)) (lacks may r) free
+    where
+      go : (a : Bool) → badCount count (length ws) ≡ a → (b c : Bool) → first (case 1 a ∷ case 2 b ∷ case 3 c ∷ []) ≡ 0 → (count ≤ length ws) × (c ≡ false)
+      go false e false false f = (good-count count (length ws) (sym e) refl .0, refl)
+      go false e false true f = absurd (omega arith)
+      go false e true c f = absurd (omega arith)
+      go true e b c f = absurd (omega arith)
+
+-- what is done at other addresses leaves a setting as it is, unless it is the erase
+left-else : (b a : ℕ) (vs : List ℕ) (w : ℕ) → (a ≤ b → b < a + length vs → ⊥) → (a ≤ 0x4201 → 0x4201 < a + length vs → ⊥) → leftAt b a vs w ≡ w
+unfolding wordLeft
+left-else b a [] w h k = refl
+left-else b a (v ∷ vs) w h k =
+    rw (ne-eqb a b (λ d. h (omega arith) (omega arith)), ne-eqb a 0x4201 (λ d. k (omega arith) (omega arith)))
+    (left-else b (a + 1) vs w (λ x y. h (omega arith) (omega arith)) (λ x y. k (omega arith) (omega arith)))
+
+region-4201 : regionOf 0x4201 ≡ At (record { first = 0x4201; last = 0x4201; access = A.Write })
+unfolding cardRows scan
+region-4201 = rw (in-card 0x4201 (omega arith))
 
 module _ (st : State) (start count : ℕ) (ws : List ℕ) where
   abbrev pub o : Out
@@ -190,8 +203,8 @@ module _ (st : State) (start count : ℕ) (ws : List ℕ) where
     where
       go : Given (first (once writable (regionOf start) count ws)) (writeRefusal (regionOf start) st start ws) count (numberOf (o .answer)) p → p ≤ length ws
       go (Once a b c) = omega arith
-      go (Stopped a b c d e) = omega (arith, counted (regionOf start) count ws a)
-      go (All a b c d) = omega (arith, counted (regionOf start) count ws a)
+      go (Stopped a b c d e) = omega (arith, once-free writable (regionOf start) count ws a .0)
+      go (All a b c d) = omega (arith, once-free writable (regionOf start) count ws a .0)
 
   pub done-length : length (wordsDone st start count ws) ≡ p
   done-length = length-take-le p ws few
@@ -202,9 +215,9 @@ module _ (st : State) (start count : ℕ) (ws : List ℕ) where
   at-stop : stopOf st start count ws - start ≡ p
   at-stop = omega (arith, stop-is)
 
-  word-done : length (st .settings) ≡ 16960 → (i : ℕ) → i < p → WordDone (doneFrom st start (take i ws)) (start + i) (getD ws i 0) (doneFrom st start (take (suc i) ws))
+  word-at : length (st .settings) ≡ 16960 → (i : ℕ) → i < p → WordDone (doneFrom st start (take i ws)) (start + i) (getD ws i 0) (doneFrom st start (take (suc i) ws))
   unfolding CountedIsDone
-  word-done l i h =
+  word-at l i h =
       rw (take-take i p ws (omega arith), take-take (suc i) p ws (omega arith), getD-take p ws i 0 h) at
       (each-at st start (wordsDone st start count ws) _ (counted-is-done st l start count ws) i (omega (arith, done-length)))
 
@@ -212,7 +225,7 @@ module _ (st : State) (start count : ℕ) (ws : List ℕ) where
   each-below l a f g =
       let e : start + (a - start) ≡ a = omega arith in
       let n : a + 1 - start ≡ suc (a - start) = omega arith in
-      rw n (rw e at (word-done l (a - start) (omega (arith, stop-is))))
+      rw n (rw e at (word-at l (a - start) (omega (arith, stop-is))))
 
   refused-there : (n : ℕ) → Given (first (once writable (regionOf start) count ws)) (writeRefusal (regionOf start) st start ws) count n p → 4 ≤ n
       → first (toWrite (regionOf start) (doneFrom st start (take p ws)) (start + p) (getD ws p 0)) ≡ n
@@ -220,12 +233,39 @@ module _ (st : State) (start count : ℕ) (ws : List ℕ) where
   refused-there n (Stopped a b c d e) h = d
   refused-there n (All a b c d) h = absurd (omega arith)
 
+  -- a write that does the erase does nothing else, and stops at the manual trigger, which is no setting
+  no-erase : isSetting (registerOf (start + p)) ≡ true → start ≤ 0x4201 → 0x4201 < start + p → ⊥
+  no-erase i f g = go (regionOf start) refl (written st start count ws)
+    where
+      go : (r : Found) → regionOf start ≡ r → Result r st start count ws o → ⊥
+      go Nothing e y = let n = ap length (no-region st start count ws e) in omega (arith, n, done-length)
+      go (At q) e y =
+          let n = done-length in
+          let m = inside q st start (wordsDone st start count ws) (y .all q refl) (omega arith) in
+          let l = lies start q e in
+          let z = alone 0x4201 q region-4201 (same-region start 0x4201 q e (omega arith) (omega arith)) in
+          let a : start + p ≡ 0x4202 = omega arith in
+          true≢false (sym i ∙ ap (λ (b : ℕ). isSetting (registerOf b)) a ∙ ap isSetting manual-register)
+
+  stays : length (st .settings) ≡ 16960 → isSetting (registerOf (start + p)) ≡ true → readBack (o .state) (start + p) ≡ readBack st (start + p)
+  stays l i =
+      settings-kept .kept st l (start + p) i (Write start count ws ∷ [])
+      ∙ left-else (start + p) start (wordsDone st start count ws) (readBack st (start + p)) (λ f g. absurd (omega (arith, g, done-length)))
+      (λ f g. no-erase i f (omega (arith, g, done-length)))
+
   pub done-below : DoneBelow st start count ws
   done-below =
       let y = written st start count ws in
       record {
-        written = λ a. does-at a start (wordsDone st start count ws) ∙ ap (λ (n : ℕ). leb start a && ltb a n) (ap (λ (n : ℕ). start + n) done-length ∙ sym stop-is);
+        addresses = λ a. does-at a start (wordsDone st start count ws) ∙ ap (λ (n : ℕ). leb start a && ltb a n) (ap (λ (n : ℕ). start + n) done-length ∙ sym stop-is);
         each = each-below;
         state = y .done ∙ ap (λ (n : ℕ). doneFrom st start (take n ws)) (sym at-stop);
+        kept = λ l i. subst (λ (a : ℕ). readBack (o .state) a ≡ readBack st a) (sym stop-is) (stays l (subst (λ (a : ℕ). isSetting (registerOf a) ≡ true) stop-is i));
         refused = λ h. rw (at-stop, stop-is, y .done) (refused-there _ (y .given) h);
       }
+
+pub read-below : (st : State) (start count : ℕ) (ws : List ℕ) → ReadBelow st start count ws
+read-below st start count ws a f g =
+    let w : Answer = readOf (st .settings) (st .card) start count ws .answer in
+    let e : start + (a - start) ≡ a = omega arith in
+    was-read st start count ws .words (a - start) (omega (arith, g, address-is start w)) ∙ ap (readBack st) e

@@ -36,11 +36,11 @@ abbrev verdictNumber : Verdict → ℕ
 verdictNumber D.Accepted = 0
 verdictNumber (D.Refused why) = whyNumber why
 
-why-some : (why : Why) → 1 ≤ whyNumber why
-why-some Fixed = omega arith
-why-some Value = omega arith
-why-some Held = omega arith
-why-some Running = omega arith
+pub why-high : (why : Why) → 5 ≤ whyNumber why
+why-high Fixed = omega arith
+why-high Value = omega arith
+why-high Held = omega arith
+why-high Running = omega arith
 
 judged : (q : Region) (st : State) (a v : ℕ) → ltb (q .last) a ≡ false → first (toWrite (At q) st a v) ≡ verdictNumber (judgeOf (st .settings) (st .card) (registerOf a) v)
 unfolding judgeOf
@@ -115,7 +115,7 @@ walk q st a i (v ∷ vs) = go (ltb (q .last) a) refl (judgeOf (st .settings) (st
           all = ((ltb-false (q .last) a e, f), r .all);
           ends = later (r .many) (numberOf (writeWords next (a + 1) (q .last) (i + 1) vs .answer)) (r .ends);
         }
-    go false e (D.Refused why) f r = halt (Refused why i) refl (sym (judged q st a v e ∙ ap verdictNumber f)) (why-some why)
+    go false e (D.Refused why) f r = halt (Refused why i) refl (sym (judged q st a v e ∙ ap verdictNumber f)) (omega (arith, why-high why))
 
 -- a word that was done was not refused
 done-passes : (q : Region) (st : State) (a : ℕ) (vs : List ℕ) (n : ℕ) → n ≤ length vs → AllDone q st a (take n vs) → (i : ℕ) → i < n → writeRefusal (At q) st a vs i ≡ 0

@@ -32,10 +32,10 @@ address-is start (Beyond n) = refl
 address-is start (Refused why n) = refl
 
 -- words from address a on, after i of them, stop at the latest where the region has ended
-abbrev Stops : ℕ → ℕ → ℕ → Answer → Type 0
-Stops a i last w = a + processedOf w ≤ i + (last + 1)
+abbrev StopsBy : ℕ → ℕ → ℕ → Answer → Type 0
+StopsBy a i last w = a + processedOf w ≤ i + (last + 1)
 
-write-stops : (st : State) (a last i : ℕ) (vs : List ℕ) → a ≤ last + 1 → Stops a i last (writeWords st a last i vs .answer)
+write-stops : (st : State) (a last i : ℕ) (vs : List ℕ) → a ≤ last + 1 → StopsBy a i last (writeWords st a last i vs .answer)
 unfolding writeWords
 write-stops st a last i [] h = omega arith
 write-stops st a last i (v ∷ vs) h = go (ltb last a) refl (writeWord st a v .verdict) (write-stops (writeWord st a v .state) (a + 1) last (i + 1) vs)
@@ -43,13 +43,13 @@ write-stops st a last i (v ∷ vs) h = go (ltb last a) refl (writeWord st a v .v
     next : State
     next = writeWord st a v .state
 
-    go : (b : Bool) → ltb last a ≡ b → (d : Verdict) → (a + 1 ≤ last + 1 → Stops (a + 1) (i + 1) last (writeWords next (a + 1) last (i + 1) vs .answer))
-        → Stops a i last (cond b (out st (Beyond i)) (goOn d next i (writeWords next (a + 1) last (i + 1) vs)) .answer)
+    go : (b : Bool) → ltb last a ≡ b → (d : Verdict) → (a + 1 ≤ last + 1 → StopsBy (a + 1) (i + 1) last (writeWords next (a + 1) last (i + 1) vs .answer))
+        → StopsBy a i last (cond b (out st (Beyond i)) (goOn d next i (writeWords next (a + 1) last (i + 1) vs)) .answer)
     go true e d r = omega arith
     go false e D.Accepted r = let l = ltb-false last a e in omega (arith, r (omega arith))
     go false e (D.Refused why) r = omega arith
 
-read-stops : (s : List ℕ) (k : Card) (a last i n : ℕ) (ws : List ℕ) → a ≤ last + 1 → Stops a i last (readWords s k a last i n ws .answer)
+read-stops : (s : List ℕ) (k : Card) (a last i n : ℕ) (ws : List ℕ) → a ≤ last + 1 → StopsBy a i last (readWords s k a last i n ws .answer)
 unfolding readWords
 read-stops s k a last i zero ws h = omega arith
 read-stops s k a last i (suc n) ws h = go (ltb last a) refl (read-stops s k (a + 1) last (i + 1) n (set ws i (readWord s k a)))
@@ -57,8 +57,8 @@ read-stops s k a last i (suc n) ws h = go (ltb last a) refl (read-stops s k (a +
     next : List ℕ
     next = set ws i (readWord s k a)
 
-    go : (b : Bool) → ltb last a ≡ b → (a + 1 ≤ last + 1 → Stops (a + 1) (i + 1) last (readWords s k (a + 1) last (i + 1) n next .answer))
-        → Stops a i last (cond b (filled ws (Beyond i)) (readWords s k (a + 1) last (i + 1) n next) .answer)
+    go : (b : Bool) → ltb last a ≡ b → (a + 1 ≤ last + 1 → StopsBy (a + 1) (i + 1) last (readWords s k (a + 1) last (i + 1) n next .answer))
+        → StopsBy a i last (cond b (filled ws (Beyond i)) (readWords s k (a + 1) last (i + 1) n next) .answer)
     go true e r = omega arith
     go false e r = let l = ltb-false last a e in omega (arith, r (omega arith))
 
@@ -67,7 +67,7 @@ read-stops s k a last i (suc n) ws h = go (ltb last a) refl (read-stops s k (a +
 -- whatever a transfer from `start` on comes to, o for a bad count and f of the region that is found: it stops within 16 bits
 module _ {O : Type 0} (answer : O → Answer) (start : ℕ) (o : O) (f : Found → O) where
   stops-low : start < 65536 → processedOf (answer o) ≡ 0 → processedOf (answer (f Nothing)) ≡ 0
-      → ((q : Region) → start ≤ q .last + 1 → Stops start 0 (q .last) (answer (f (At q))))
+      → ((q : Region) → start ≤ q .last + 1 → StopsBy start 0 (q .last) (answer (f (At q))))
       → (b : Bool) → start + processedOf (answer (cond b o (f (regionOf start)))) < 65536
   stops-low h y z g true = omega arith
   stops-low h y z g false = by (regionOf start) refl
@@ -85,7 +85,7 @@ write-fits st start count ws h =
     stops-low (λ (o : Out). o .answer) start (out st BadCount) (writeIn st start count ws) h refl refl
     (λ q g. may q g (writable (q .access))) (badCount count (length ws))
   where
-    may : (q : Region) → start ≤ q .last + 1 → (b : Bool) → Stops start 0 (q .last) (cond b (writeWords st start (q .last) 0 (take count ws)) (out st NoAccess) .answer)
+    may : (q : Region) → start ≤ q .last + 1 → (b : Bool) → StopsBy start 0 (q .last) (cond b (writeWords st start (q .last) 0 (take count ws)) (out st NoAccess) .answer)
     may q g true = write-stops st start (q .last) 0 (take count ws) g
     may q g false = omega arith
 
@@ -95,6 +95,6 @@ read-fits s k start count ws h =
     stops-low (λ (f : Filled). f .answer) start (filled ws BadCount) (readIn s k start count ws) h refl refl
     (λ q g. may q g (readable (q .access))) (badCount count (length ws))
   where
-    may : (q : Region) → start ≤ q .last + 1 → (b : Bool) → Stops start 0 (q .last) (cond b (readWords s k start (q .last) 0 count ws) (filled ws NoAccess) .answer)
+    may : (q : Region) → start ≤ q .last + 1 → (b : Bool) → StopsBy start 0 (q .last) (cond b (readWords s k start (q .last) 0 count ws) (filled ws NoAccess) .answer)
     may q g true = read-stops s k start (q .last) 0 count ws g
     may q g false = omega arith

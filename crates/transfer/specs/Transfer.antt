@@ -107,7 +107,7 @@ writeIn st start count ws (At r) = cond (writable (r .access)) (writeWords st st
 unfoldable pub writeOf : State → ℕ → ℕ → List ℕ → Out
 writeOf st start count ws = cond (badCount count (length ws)) (out st BadCount) (writeIn st start count ws (regionOf start))
 
--- what its words come to by value, and the settings and the tables that they leave
+-- what the words of a write come to by value, and the settings and the tables that they leave
 abbrev pub outcomeOf : Out → Outcome
 outcomeOf o = record { card = o .state .card; answer = o .answer }
 

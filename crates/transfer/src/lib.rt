@@ -55,7 +55,7 @@ pub enum Answer {
     Refused(Why, usize),
 }
 
-// What a transfer says: its answer, and the address of the first word not done.
+// What a transfer says: the answer, and the address of the first word not done.
 pub struct Reply {
     pub answer: Answer,
     pub address: u16,
@@ -67,7 +67,7 @@ pub struct Written {
 }
 
 // The card after the words of a write, and their answer.
-pub struct Outcome {
+struct Outcome {
     pub card: Card,
     pub answer: Answer,
 }
@@ -150,7 +150,7 @@ fn why_number(why: Why) -> u16
     }
 }
 
-// The answer with its address: as many words from the start on as are done.
+// The answer with its address, which lies as many words past the start as are done.
 fn replied(start: u16, answer: Answer) -> Reply
     requires { ⌜ start + processedOf answer < 65536 ⌝ }
     ensures { λ r. ⌜ r ≡ replyOf start answer ⌝ }
