@@ -8,3 +8,7 @@ longest = 16396
 
 abbrev pub Short : Answered → Type 0
 Short r = r .end ≤ longest
+
+-- the last place of the 65,536 from which there is room for it and its LF
+abbrev pub lastRoom : ℕ
+lastRoom = 49139

@@ -13,7 +13,7 @@ use sum::Edition;
 use transfer::Reply;
 ghost use Prim.Native.Nat.{_+_, _≤_, _<_};
 ghost use lib.ListN.{length};
-ghost use Rattle.bench.specs.Room.{longest, Short};
+ghost use Rattle.bench.specs.Room.{longest, lastRoom, Short};
 
 // After a chunk: the card, how many bytes of the open line are held, and whether to go on.
 struct Turn {
@@ -128,7 +128,7 @@ fn serve_chunk(
             k = a.card;
             h = 0;
             end = room_made(out, a.end);
-            if 49139 < end {
+            if LAST_ROOM < end {
                 return stopped(k);
             }
         } else {
@@ -151,13 +151,15 @@ fn stopped(card: Card) -> Turn {
     }
 }
 
+// The last place of the 65,536 from which there is room for an answer, which has at most 16,397 bytes with its LF.
+const LAST_ROOM: usize = 49139;
+
 // Where the answers end once there is room for one more: written, if they must be; still there where they cannot be written.
-// An answer has at most 16,397 bytes with its LF, so there is room for one up to place 49,139 of the 65,536.
 fn room_made(out: &[u8], end: usize) -> usize
     requires { ⌜ end ≤ 65536 ⌝ }
     ensures { λ r. ⌜ r ≤ end ⌝ }
 {
-    if end <= 49139 {
+    if end <= LAST_ROOM {
         return end;
     }
     if write_answers(out, end) { 0 } else { end }
@@ -174,7 +176,7 @@ fn end_line(
     at: usize,
     card: Card,
 ) -> Answered
-    requires { ⌜ (at ≤ 49139) × (65536 ≤ length (now out)) ⌝ }
+    requires { ⌜ (at ≤ lastRoom) × (65536 ≤ length (now out)) ⌝ }
     ensures { λ r. ⌜ r .end ≤ at + longest + 1 ⌝ }
 {
     let n = word::least(held, line.len());

@@ -4,12 +4,13 @@ use borrow.Author.Needs.{needs}
 use mathlib.Core.Path.{_≡_}
 use Prim.Native.Nat.{_≤_, _-_}
 use lib.ListN.{length}
+use Rattle.bench.specs.Room.{lastRoom}
 use Rattle.bench.proofs.serve_chunk.Statement.{statement}
 use Rattle.bench.proofs.serve_chunk.Tie as tie
 
 abbrev Inv-loop : tie.InvT-loop
 Inv-loop settings₀ tables₀ waves₀ line₀ out₀ held chunk k₀ h₀ end₀ i₀ settings tables waves line out k h end i =
-    (i ≤ length chunk) × (end ≤ 49139) × (length line ≡ length line₀) × (length out ≡ length out₀)
+    (i ≤ length chunk) × (end ≤ lastRoom) × (length line ≡ length line₀) × (length out ≡ length out₀)
 
 abbrev μ-loop : tie.MeasureT-loop
 μ-loop settings₀ tables₀ waves₀ line₀ out₀ held chunk k₀ h₀ end₀ i₀ settings tables waves line out k h end i = length chunk - i
