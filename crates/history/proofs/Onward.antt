@@ -42,8 +42,11 @@ stays Value st i rest = refl
 stays Held st i rest = refl
 stays Running st i rest = refl
 
-words-join : (st : State) (a last i : ℕ) (ws vs : List ℕ)
-    → writeWords st a last i (ws ++ vs) ≡ follow (writeWords st a last i ws) (writeWords (writeWords st a last i ws .state) (a + length ws) last (i + length ws) vs)
+-- the words ws and then vs, one list after the other
+abbrev listed : State → ℕ → ℕ → ℕ → List ℕ → List ℕ → Out
+listed st a last i ws vs = follow (writeWords st a last i ws) (writeWords (writeWords st a last i ws .state) (a + length ws) last (i + length ws) vs)
+
+words-join : (st : State) (a last i : ℕ) (ws vs : List ℕ) → writeWords st a last i (ws ++ vs) ≡ listed st a last i ws vs
 unfolding writeWords
 words-join st a last i [] vs =
     let e : a + 0 ≡ a = omega arith in
@@ -54,7 +57,7 @@ words-join st a last i (v ∷ ws) vs = go (ltb last a) (writeWord st a v .verdic
     next : State
     next = writeWord st a v .state
 
-    go : (b : Bool) (d : Verdict) → writeWords next (a + 1) last (i + 1) (ws ++ vs) ≡ follow (writeWords next (a + 1) last (i + 1) ws) (writeWords (writeWords next (a + 1) last (i + 1) ws .state) (a + 1 + length ws) last (i + 1 + length ws) vs)
+    go : (b : Bool) (d : Verdict) → writeWords next (a + 1) last (i + 1) (ws ++ vs) ≡ listed next (a + 1) last (i + 1) ws vs
         → cond b (out st (Beyond i)) (goOn d next i (writeWords next (a + 1) last (i + 1) (ws ++ vs)))
         ≡ follow (cond b (out st (Beyond i)) (goOn d next i (writeWords next (a + 1) last (i + 1) ws)))
         (writeWords (cond b (out st (Beyond i)) (goOn d next i (writeWords next (a + 1) last (i + 1) ws)) .state) (a + suc (length ws)) last (i + suc (length ws)) vs)
@@ -65,42 +68,25 @@ words-join st a last i (v ∷ ws) vs = go (ltb last a) (writeWord st a v .verdic
         rw (e, f) r
     go false (D.Refused why) r = stays why next i _
 
--- words counted on from p
-words-counted : (p : ℕ) (st : State) (a last i : ℕ) (vs : List ℕ)
-    → writeWords st a last (p + i) vs ≡ out (writeWords st a last i vs .state) (countedOn p (writeWords st a last i vs .answer))
+-- x is y with its words counted on from p, and so is the address, since words are never answered 1 to 3
+record CountsOn (start p : ℕ) (x y : Out) : Type 0 where
+  is : x ≡ out (y .state) (countedOn p (y .answer))
+  address : addressOf start (countedOn p (y .answer)) ≡ addressOf (start + p) (y .answer)
+
+words-counted : (start p : ℕ) (st : State) (a last i : ℕ) (vs : List ℕ) → CountsOn start p (writeWords st a last (p + i) vs) (writeWords st a last i vs)
 unfolding writeWords
-words-counted p st a last i [] = refl
-words-counted p st a last i (v ∷ vs) = go (ltb last a) (writeWord st a v .verdict) (words-counted p (writeWord st a v .state) (a + 1) last (i + 1) vs)
+words-counted start p st a last i [] = record { is = refl; address = omega arith }
+words-counted start p st a last i (v ∷ vs) = go (ltb last a) (writeWord st a v .verdict) (words-counted start p (writeWord st a v .state) (a + 1) last (i + 1) vs)
   where
     next : State
     next = writeWord st a v .state
 
-    go : (b : Bool) (d : Verdict)
-        → writeWords next (a + 1) last (p + (i + 1)) vs ≡ out (writeWords next (a + 1) last (i + 1) vs .state) (countedOn p (writeWords next (a + 1) last (i + 1) vs .answer))
-        → cond b (out st (Beyond (p + i))) (goOn d next (p + i) (writeWords next (a + 1) last (p + i + 1) vs))
-        ≡ out (cond b (out st (Beyond i)) (goOn d next i (writeWords next (a + 1) last (i + 1) vs)) .state)
-        (countedOn p (cond b (out st (Beyond i)) (goOn d next i (writeWords next (a + 1) last (i + 1) vs)) .answer))
-    go true d r = refl
+    go : (b : Bool) (d : Verdict) → CountsOn start p (writeWords next (a + 1) last (p + (i + 1)) vs) (writeWords next (a + 1) last (i + 1) vs)
+        → CountsOn start p (cond b (out st (Beyond (p + i))) (goOn d next (p + i) (writeWords next (a + 1) last (p + i + 1) vs)))
+        (cond b (out st (Beyond i)) (goOn d next i (writeWords next (a + 1) last (i + 1) vs)))
+    go true d r = record { is = refl; address = omega arith }
     go false D.Accepted r = let e : p + i + 1 ≡ p + (i + 1) = omega arith in rw e r
-    go false (D.Refused why) r = refl
-
--- and their address is the one that the count goes on from, since words are never answered 1 to 3
-words-address : (start p : ℕ) (st : State) (a last i : ℕ) (vs : List ℕ)
-    → addressOf start (countedOn p (writeWords st a last i vs .answer)) ≡ addressOf (start + p) (writeWords st a last i vs .answer)
-unfolding writeWords
-words-address start p st a last i [] = omega arith
-words-address start p st a last i (v ∷ vs) = go (ltb last a) (writeWord st a v .verdict) (words-address start p (writeWord st a v .state) (a + 1) last (i + 1) vs)
-  where
-    next : State
-    next = writeWord st a v .state
-
-    go : (b : Bool) (d : Verdict)
-        → addressOf start (countedOn p (writeWords next (a + 1) last (i + 1) vs .answer)) ≡ addressOf (start + p) (writeWords next (a + 1) last (i + 1) vs .answer)
-        → addressOf start (countedOn p (cond b (out st (Beyond i)) (goOn d next i (writeWords next (a + 1) last (i + 1) vs)) .answer))
-        ≡ addressOf (start + p) (cond b (out st (Beyond i)) (goOn d next i (writeWords next (a + 1) last (i + 1) vs)) .answer)
-    go true d r = omega arith
-    go false D.Accepted r = r
-    go false (D.Refused why) r = omega arith
+    go false (D.Refused why) r = record { is = refl; address = omega arith }
 
 -- words that are all done are all done again
 words-done : (q : Region) (st : State) (a i : ℕ) (vs : List ℕ) → AllDone q st a vs → writeWords st a (q .last) i vs ≡ out (doneFrom st a vs) (Done (i + length vs))
@@ -141,11 +127,11 @@ module _ (start n : ℕ) (vs : List ℕ) (h : Follow start n vs) (may : writable
   counts-on : (st : State) → writeWords st (start + n) (h .region .last) (0 + n) vs ≡ onFrom st (start + n) n vs
   counts-on st =
       let e : 0 + n ≡ n + 0 = omega arith in
-      ap (λ (i : ℕ). writeWords st (start + n) (h .region .last) i vs) e ∙ words-counted n st (start + n) (h .region .last) 0 vs
+      ap (λ (i : ℕ). writeWords st (start + n) (h .region .last) i vs) e ∙ words-counted start n st (start + n) (h .region .last) 0 vs .is
       ∙ ap (λ (o : Out). out (o .state) (countedOn n (o .answer))) (sym (rest-is st))
 
   address-on : (st : State) → addressOf start (onFrom st (start + n) n vs .answer) ≡ addressOf (start + n) (writeAll st (start + n) vs .answer)
-  address-on st = rw (rest-is st) (words-address start n st (start + n) (h .region .last) 0 vs)
+  address-on st = rw (rest-is st) (words-counted start n st (start + n) (h .region .last) 0 vs .address)
 
 module _ (st : State) (start : ℕ) (ws vs : List ℕ) (some : 1 ≤ length ws) (h : Follow start (length ws) vs) where
   abbrev o : Out
@@ -240,7 +226,8 @@ module _ (st : State) (start count : ℕ) (ws vs : List ℕ) where
       parts st start (v ∷ l) vs n f ∙ ap (λ (x : Out). andThen start x vs) again
 
   same-address : Follow start (length done) vs → (n : ℕ) → length done ≡ n
-      → addressOf start (onFrom (doneFrom st start done) (start + length done) (length done) vs .answer) ≡ addressOf (start + length done) (writeAll (doneFrom st start done) (start + length done) vs .answer)
+      → addressOf start (onFrom (doneFrom st start done) (start + length done) (length done) vs .answer)
+      ≡ addressOf (start + length done) (writeAll (doneFrom st start done) (start + length done) vs .answer)
   same-address h zero e =
       let z : start + 0 ≡ start = omega arith in
       rw (e, z, counted-from-0 (writeAll (doneFrom st start done) start vs .answer))
