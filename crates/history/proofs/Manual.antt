@@ -24,16 +24,19 @@ use Rattle.history.specs.History.{wordsDone, doneFrom, manualAmong}
 use Rattle.history.proofs.Addresses.{manual-register}
 use Rattle.history.proofs.Writing.{AllDone, Result, written, no-region}
 
--- 0x4202 is a region of its own
-region-4202 : regionOf 0x4202 ≡ At (record { first = 0x4202; last = 0x4202; access = A.Write })
-unfolding cardRows scan
-region-4202 = rw (in-card 0x4202 (omega arith))
+-- a region of one word, which can be written alone: such are the erase and the manual trigger
+abbrev pub Own : ℕ → Type 0
+Own a = regionOf a ≡ At (record { first = a; last = a; access = A.Write })
 
-pub alone : (a : ℕ) (q : Region) → regionOf a ≡ At (record { first = a; last = a; access = A.Write }) → regionOf a ≡ At q → (q .first ≡ a) × (q .last ≡ a)
-alone a q own e = (first, last)
+pub own : Own 0x4201 × Own 0x4202
+unfolding cardRows scan
+own = (rw (in-card 0x4201 (omega arith)), rw (in-card 0x4202 (omega arith)))
+
+pub alone : (a : ℕ) (q : Region) → Own a → regionOf a ≡ At q → (q .first ≡ a) × (q .last ≡ a)
+alone a q o e = (first, last)
   where
     same : At (record { first = a; last = a; access = A.Write }) ≡ At q
-    same = sym own ∙ e
+    same = sym o ∙ e
 
     first : q .first ≡ a
     first = cc (same)
@@ -84,7 +87,7 @@ manual-alone st start count ws v f = go (regionOf start) refl (written st start 
         let p = reaches start v (wordsDone st start count ws) f in
         let i = inside q st start (wordsDone st start count ws) (y .all q refl) (omega arith) in
         let x = lies start q e in
-        let z = alone 0x4202 q region-4202 (same-region start 0x4202 q e (omega arith) (omega arith)) in
+        let z = alone 0x4202 q (own .1) (same-region start 0x4202 q e (omega arith) (omega arith)) in
         record { here = omega arith; few = omega arith }
 
 -- AND IS THE MANUAL TRIGGER

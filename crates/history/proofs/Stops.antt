@@ -8,16 +8,14 @@ use native.Mathlib.Omega.{arith}
 use lib.Dec.{eqb, leb, ltb}
 use lib.ListN.{length, getD, take}
 use lib.Seq.{length-take-le, take-take, getD-take}
-use borrow.Author.Tests.{ltb-true, ltb-false, lt-ltb, le-ltb, leb-true, le-leb, lt-leb, ne-eqb, eqb-true, eqb-false}
+use borrow.Author.Tests.{ltb-true, ltb-false, lt-ltb, le-ltb, leb-true, le-leb, lt-leb, eq-eqb, ne-eqb}
 use Rattle.map.specs.declared.Found.{Found}
 use Rattle.map.specs.declared.Found.the-variants.{At, Nothing}
 use Rattle.map.specs.declared.Region.{Region}
 use Rattle.map.specs.declared.Register.{Register}
 use Rattle.map.specs.declared.Access.{Access}
-use Rattle.map.specs.declared.Access.the-variants as A
-use Rattle.map.specs.Map.{scan, cardRows, regionOf, registerOf, acceptedAt, inRegion}
+use Rattle.map.specs.Map.{regionOf, registerOf, acceptedAt, inRegion}
 use Rattle.map.specs.Settings.{isFixed, isSetting}
-use Rattle.map.proofs.Blocks.{in-card}
 use Rattle.map.proofs.Regions.{lies, same-region}
 use Rattle.card.specs.Card.{State}
 use Rattle.transfer.specs.declared.Answer.{Answer}
@@ -35,7 +33,7 @@ use Rattle.history.specs.Stops.{writeReply, readReply, StopsAt, stopOf, 
 use Rattle.history.proofs.Addresses.{manual-register}
 use Rattle.history.proofs.Writing.{why-high, Result, written, no-region}
 use Rattle.history.proofs.Reading.{was-read}
-use Rattle.history.proofs.Manual.{alone, inside}
+use Rattle.history.proofs.Manual.{own, alone, inside}
 use Rattle.history.proofs.Settings.{settings-kept}
 use Rattle.history.proofs.Counted.{counted-is-done}
 
@@ -141,25 +139,17 @@ does-at b a [] = go (leb a b) refl
     go : (x : Bool) → leb a b ≡ x → false ≡ x && ltb b (a + 0)
     go true e = let l = leb-true a b e in rw (le-ltb b (a + 0) (omega arith))
     go false e = refl
-does-at b a (v ∷ vs) = rw (does-at b (a + 1) vs) (go (eqb a b) refl (ltb a b) refl)
+does-at b a (v ∷ vs) = rw (does-at b (a + 1) vs) (go (ltb a b) refl (ltb b a) refl)
   where
-    below-it : b ≤ a → (a ≡ b → ⊥) → b < a
-    below-it d n = by (ltb b a) refl
-      where
-        by : (z : Bool) → ltb b a ≡ z → b < a
-        by true g = ltb-true b a g
-        by false g = absurd (n (let l = ltb-false b a g in omega arith))
-
     end : a + 1 + length vs ≡ a + suc (length vs)
     end = omega arith
 
-    go : (x : Bool) → eqb a b ≡ x → (y : Bool) → ltb a b ≡ y → x || (leb (a + 1) b && ltb b (a + 1 + length vs)) ≡ leb a b && ltb b (a + suc (length vs))
-    go true e y f = let d = eqb-true a b e in rw (le-leb a b (omega arith), lt-ltb b (a + suc (length vs)) (omega arith))
-    go false e true f = let d = ltb-true a b f in rw (le-leb a b (omega arith), le-leb (a + 1) b (omega arith), end)
+    go : (x : Bool) → ltb a b ≡ x → (y : Bool) → ltb b a ≡ y → eqb a b || (leb (a + 1) b && ltb b (a + 1 + length vs)) ≡ leb a b && ltb b (a + suc (length vs))
+    go true e y f = let d = ltb-true a b e in rw (ne-eqb a b (λ z. absurd (omega arith)), le-leb a b (omega arith), le-leb (a + 1) b (omega arith), end)
+    go false e true f = let d = ltb-true b a f in rw (ne-eqb a b (λ z. absurd (omega arith)), lt-leb a b (omega arith), lt-leb (a + 1) b (omega arith))
     go false e false f =
-        let d = ltb-false a b f in
-        let n = eqb-false a b e in
-        rw (lt-leb (a + 1) b (omega arith), lt-leb a b (below-it d n))
+        let d : a ≡ b = omega (arith, ltb-false a b e, ltb-false b a f) in
+        rw (eq-eqb a b d, le-leb a b (omega arith), lt-ltb b (a + suc (length vs)) (omega arith))
 
 -- of words each of them done, the word at place i finds those before it done
 each-at : (x : State) (a : ℕ) (vs : List ℕ) (y : State) → EachDone x a vs y → (i : ℕ) → i < length vs
@@ -187,15 +177,11 @@ left-else b a (v ∷ vs) w h k =
     rw (ne-eqb a b (λ d. h (omega arith) (omega arith)), ne-eqb a 0x4201 (λ d. k (omega arith) (omega arith)))
     (left-else b (a + 1) vs w (λ x y. h (omega arith) (omega arith)) (λ x y. k (omega arith) (omega arith)))
 
-region-4201 : regionOf 0x4201 ≡ At (record { first = 0x4201; last = 0x4201; access = A.Write })
-unfolding cardRows scan
-region-4201 = rw (in-card 0x4201 (omega arith))
-
 module _ (st : State) (start count : ℕ) (ws : List ℕ) where
-  abbrev pub o : Out
+  abbrev o : Out
   o = writeOf st start count ws
 
-  abbrev pub p : ℕ
+  abbrev p : ℕ
   p = processedOf (o .answer)
 
   few : p ≤ length ws
@@ -206,7 +192,7 @@ module _ (st : State) (start count : ℕ) (ws : List ℕ) where
       go (Stopped a b c d e) = omega (arith, once-free writable (regionOf start) count ws a .0)
       go (All a b c d) = omega (arith, once-free writable (regionOf start) count ws a .0)
 
-  pub done-length : length (wordsDone st start count ws) ≡ p
+  pub done-length : length (wordsDone st start count ws) ≡ processedOf (writeOf st start count ws .answer)
   done-length = length-take-le p ws few
 
   stop-is : stopOf st start count ws ≡ start + p
@@ -243,7 +229,7 @@ module _ (st : State) (start count : ℕ) (ws : List ℕ) where
           let n = done-length in
           let m = inside q st start (wordsDone st start count ws) (y .all q refl) (omega arith) in
           let l = lies start q e in
-          let z = alone 0x4201 q region-4201 (same-region start 0x4201 q e (omega arith) (omega arith)) in
+          let z = alone 0x4201 q (own .0) (same-region start 0x4201 q e (omega arith) (omega arith)) in
           let a : start + p ≡ 0x4202 = omega arith in
           true≢false (sym i ∙ ap (λ (b : ℕ). isSetting (registerOf b)) a ∙ ap isSetting manual-register)
 

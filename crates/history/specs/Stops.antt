@@ -59,7 +59,7 @@ pub record DoneBelow (st : State) (start count : ℕ) (ws : List ℕ) : Type 0 w
   pub each : length (st .settings) ≡ 16960 → (a : ℕ) → start ≤ a → a < stopOf st start count ws
       → WordDone (below st start ws a) a (wordFor start ws a) (below st start ws (a + 1))
   pub state : writeOf st start count ws .state ≡ below st start ws (stopOf st start count ws)
-  -- a setting at the address given is the one that was there
+  -- a setting at the address given reads as before
   pub kept : length (st .settings) ≡ 16960 → isSetting (registerOf (stopOf st start count ws)) ≡ true
       → readBack (writeOf st start count ws .state) (stopOf st start count ws) ≡ readBack st (stopOf st start count ws)
   -- 4 to 8: the word for the address given is the one refused
