@@ -24,7 +24,7 @@ use Rattle.history.specs.History.{wordsDone, doneFrom, manualAmong}
 use Rattle.history.proofs.Addresses.{manual-register}
 use Rattle.history.proofs.Writing.{AllDone, Result, written, no-region}
 
--- a region of one word, which can be written alone: such are the erase and the manual trigger
+-- a region of one word that is only written: such are the erase and the manual trigger
 abbrev pub Own : ℕ → Type 0
 Own a = regionOf a ≡ At (record { first = a; last = a; access = A.Write })
 
