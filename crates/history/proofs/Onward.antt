@@ -1,15 +1,15 @@
--- A write of ws and then vs is the write of ws and, that being answered 0, the write of vs from the address it gave (`parts`); so writing on
--- from the address that any write gave is as if the words had followed those done (`mended`). With it the whole of request Seven (`stops`).
--- Assumes nothing.
+-- Writing on: a write of ws and then vs is the write of ws and, that being answered 0, the write of vs from the address it gave (`parts`); so a
+-- refused write is mended by writing on (`mended`). With them all of request Seven, of what the calls hand back and leave (`stops`). Assumes
+-- nothing.
 use mathlib.Core.Path.{_≡_, refl, sym, ap, _∙_, subst}
 use mathlib.Core.Bool.{Bool, true, false, cond}
 use mathlib.Core.List.{List, [], _∷_, _++_}
-use Prim.Native.Nat.{ℕ, zero, suc, _+_, _≤_}
+use Prim.Native.Nat.{ℕ, suc, _+_, _≤_}
 use native.Mathlib.Omega.{arith}
 use lib.Dec.{eqb, ltb}
 use lib.ListN.{length, length-append}
 use lib.Seq.{take-all}
-use borrow.Author.Tests.{not-false, le-ltb, ne-eqb, eqb-true}
+use borrow.Author.Tests.{not-false, le-ltb, ne-eqb, eq-eqb}
 use Rattle.map.specs.declared.Found.the-variants.{At}
 use Rattle.map.specs.declared.Region.{Region}
 use Rattle.map.specs.Map.{regionOf, registerOf}
@@ -20,14 +20,17 @@ use Rattle.transfer.specs.declared.Why.the-variants.{Fixed, Value, Held, Runnin
 use Rattle.transfer.specs.declared.Verdict.{Verdict}
 use Rattle.transfer.specs.declared.Verdict.the-variants as D
 use Rattle.transfer.specs.declared.Answer.{Answer}
-use Rattle.transfer.specs.declared.Answer.the-variants.{Done, BadCount, NoRegion, NoAccess, Beyond, Refused}
+use Rattle.transfer.specs.declared.Answer.the-variants.{Done, NoAccess, Beyond, Refused}
+use Rattle.transfer.specs.declared.Reply.{Reply}
+use Rattle.transfer.specs.declared.Written.{Written}
 use Rattle.transfer.specs.Word.{effectOf, performOf, writeWord}
-use Rattle.transfer.specs.Transfer.{Out, out, numberOf, processedOf, addressOf, badCount, writable, goOn, writeWords, writeOf}
+use Rattle.transfer.specs.Transfer.{Out, out, numberOf, processedOf, replyOf, badCount, writable, goOn, writeWords, writeOf, Reads}
 use Rattle.transfer.proofs.Stops.{address-is}
 use Rattle.history.specs.History.{wordsDone, doneFrom}
 use Rattle.history.specs.Numbers.{first, once, writeRefusal, Given, Once, Stopped, All}
-use Rattle.history.specs.Stops.{stopOf, writeAll, writeOn, countedOn, joined, andThen, Follow, WritesOn, Stops}
+use Rattle.history.specs.Stops.{doneBy, Call, Writes, WritesAll, reply, after, WritesOn, Follow, Both, WriteStops, ReadStops, InParts, Stops}
 use Rattle.history.proofs.Writing.{AllDone, written}
+use Rattle.history.proofs.Numbers.{write-answered, read-answered}
 use Rattle.history.proofs.Stops.{all-done, write-stops-at, read-stops-at, once-free, done-length, done-below, read-below}
 
 -- ---- the words
@@ -68,25 +71,27 @@ words-join st a last i (v ∷ ws) vs = go (ltb last a) (writeWord st a v .verdic
         rw (e, f) r
     go false (D.Refused why) r = stays why next i _
 
--- x is y with its words counted on from p, and so is the address, since words are never answered 1 to 3
-record CountsOn (start p : ℕ) (x y : Out) : Type 0 where
-  is : x ≡ out (y .state) (countedOn p (y .answer))
-  address : addressOf start (countedOn p (y .answer)) ≡ addressOf (start + p) (y .answer)
+-- x is y with p more words done
+record CountsOn (p : ℕ) (x y : Out) : Type 0 where
+  state : x .state ≡ y .state
+  number : numberOf (x .answer) ≡ numberOf (y .answer)
+  words : processedOf (x .answer) ≡ p + processedOf (y .answer)
 
-words-counted : (start p : ℕ) (st : State) (a last i : ℕ) (vs : List ℕ) → CountsOn start p (writeWords st a last (p + i) vs) (writeWords st a last i vs)
+-- words are never answered 1 to 3, so all are counted on
+words-counted : (p : ℕ) (st : State) (a last i : ℕ) (vs : List ℕ) → CountsOn p (writeWords st a last (p + i) vs) (writeWords st a last i vs)
 unfolding writeWords
-words-counted start p st a last i [] = record { is = refl; address = omega arith }
-words-counted start p st a last i (v ∷ vs) = go (ltb last a) (writeWord st a v .verdict) (words-counted start p (writeWord st a v .state) (a + 1) last (i + 1) vs)
+words-counted p st a last i [] = record { state = refl; number = refl; words = refl }
+words-counted p st a last i (v ∷ vs) = go (ltb last a) (writeWord st a v .verdict) (words-counted p (writeWord st a v .state) (a + 1) last (i + 1) vs)
   where
     next : State
     next = writeWord st a v .state
 
-    go : (b : Bool) (d : Verdict) → CountsOn start p (writeWords next (a + 1) last (p + (i + 1)) vs) (writeWords next (a + 1) last (i + 1) vs)
-        → CountsOn start p (cond b (out st (Beyond (p + i))) (goOn d next (p + i) (writeWords next (a + 1) last (p + i + 1) vs)))
+    go : (b : Bool) (d : Verdict) → CountsOn p (writeWords next (a + 1) last (p + (i + 1)) vs) (writeWords next (a + 1) last (i + 1) vs)
+        → CountsOn p (cond b (out st (Beyond (p + i))) (goOn d next (p + i) (writeWords next (a + 1) last (p + i + 1) vs)))
         (cond b (out st (Beyond i)) (goOn d next i (writeWords next (a + 1) last (i + 1) vs)))
-    go true d r = record { is = refl; address = omega arith }
+    go true d r = record { state = refl; number = refl; words = refl }
     go false D.Accepted r = let e : p + i + 1 ≡ p + (i + 1) = omega arith in rw e r
-    go false (D.Refused why) r = record { is = refl; address = omega arith }
+    go false (D.Refused why) r = record { state = refl; number = refl; words = refl }
 
 -- words that are all done are all done again
 words-done : (q : Region) (st : State) (a i : ℕ) (vs : List ℕ) → AllDone q st a vs → writeWords st a (q .last) i vs ≡ out (doneFrom st a vs) (Done (i + length vs))
@@ -99,6 +104,9 @@ words-done q st a i (v ∷ vs) d =
     ∙ ap (λ (n : ℕ). out (doneFrom (performOf st a (effectOf (registerOf a) v)) (a + 1) vs) (Done n)) e)
 
 -- ---- whole writes in a region that may be written
+
+abbrev writeAll : State → ℕ → List ℕ → Out
+writeAll st start ws = writeOf st start (length ws) ws
 
 good : (n : ℕ) → 1 ≤ n → n ≤ 16381 → badCount n n ≡ false
 good n f g = rw (ne-eqb n 0 (λ e. absurd (omega arith)), le-ltb 16381 n g, le-ltb n n (omega arith))
@@ -113,70 +121,48 @@ shut : (q : Region) → writable (q .access) ≡ false → (st : State) (a : ℕ
 unfolding writeOf
 shut q n st a ws e f g = rw (good (length ws) f g, e, n)
 
--- both as one, by what they are made of: the state, the address and the words done before
-abbrev onFrom : State → ℕ → ℕ → List ℕ → Out
-onFrom st a p vs = out (writeAll st a vs .state) (countedOn p (writeAll st a vs .answer))
-
-module _ (start n : ℕ) (vs : List ℕ) (h : Follow start n vs) (may : writable (h .region .access) ≡ true) where
-  -- the write of the rest, in the start's region
-  rest-is : (st : State) → writeAll st (start + n) vs ≡ writeWords st (start + n) (h .region .last) 0 vs
-  rest-is st =
-      let l = lies start (h .region) (h .found) in
-      in-region (h .region) may st (start + n) vs (same-region start (start + n) (h .region) (h .found) (omega arith) (h .inside)) (h .some) (omega (arith, h .count))
-
-  counts-on : (st : State) → writeWords st (start + n) (h .region .last) (0 + n) vs ≡ onFrom st (start + n) n vs
-  counts-on st =
-      let e : 0 + n ≡ n + 0 = omega arith in
-      ap (λ (i : ℕ). writeWords st (start + n) (h .region .last) i vs) e ∙ words-counted start n st (start + n) (h .region .last) 0 vs .is
-      ∙ ap (λ (o : Out). out (o .state) (countedOn n (o .answer))) (sym (rest-is st))
-
-  address-on : (st : State) → addressOf start (onFrom st (start + n) n vs .answer) ≡ addressOf (start + n) (writeAll st (start + n) vs .answer)
-  address-on st = rw (rest-is st) (words-counted start n st (start + n) (h .region .last) 0 vs .address)
-
 module _ (st : State) (start : ℕ) (ws vs : List ℕ) (some : 1 ≤ length ws) (h : Follow start (length ws) vs) where
+  abbrev q : Region
+  q = h .region
+
   abbrev o : Out
   o = writeAll st start ws
 
   long : length (ws ++ vs) ≡ length ws + length vs
   long = length-append ws vs
 
-  -- the rest as the words would do it
-  abbrev after : Out → Out
-  after x = writeWords (x .state) (start + length ws) (h .region .last) (0 + length ws) vs
+  -- vs from the address after ws, as a write of its own
+  rest-is : writable (q .access) ≡ true → (x : State) → writeAll x (start + length ws) vs ≡ writeWords x (start + length ws) (q .last) 0 vs
+  rest-is may x =
+      let l = lies start q (h .found) in
+      in-region q may x (start + length ws) vs (same-region start (start + length ws) q (h .found) (omega arith) (h .inside)) (h .some) (omega (arith, h .count))
 
-  joins : writable (h .region .access) ≡ true → numberOf (o .answer) ≡ 0 → after o ≡ joined start o vs
-  joins may e =
-      let p = all-done start (length ws) _ _ (o .answer) (written st start (length ws) ws .given) e in
-      let a = address-is start (o .answer) ∙ ap (λ (n : ℕ). start + n) p in
-      counts-on start (length ws) vs h may (o .state)
-      ∙ sym (ap (λ (b : ℕ). onFrom (o .state) b (processedOf (o .answer)) vs) a ∙ ap (λ (n : ℕ). onFrom (o .state) (start + length ws) n vs) p)
+  joined : writable (q .access) ≡ true
+      → writeAll st start (ws ++ vs) ≡ cond (eqb (numberOf (o .answer)) 0) (writeWords (o .state) (start + length ws) (q .last) (0 + length ws) vs) o
+  joined may =
+      in-region q may st start (ws ++ vs) (h .found) (omega (arith, long)) (omega (arith, long, h .count))
+      ∙ words-join st start (q .last) 0 ws vs
+      ∙ ap (λ (x : Out). follow x (writeWords (x .state) (start + length ws) (q .last) (0 + length ws) vs)) (sym (in-region q may st start ws (h .found) some (omega (arith, h .count))))
 
-  parts : writeAll st start (ws ++ vs) ≡ andThen start o vs
-  parts = go (writable (h .region .access)) refl
+  go-on : numberOf (o .answer) ≡ 0 → CountsOn (length ws) (writeAll st start (ws ++ vs)) (writeAll (o .state) (start + length ws) vs)
+  go-on e = go (writable (q .access)) refl
     where
-      by : writable (h .region .access) ≡ true → (b : Bool) → eqb (numberOf (o .answer)) 0 ≡ b → cond b (after o) o ≡ cond b (joined start o vs) o
-      by may true e = joins may (eqb-true (numberOf (o .answer)) 0 e)
-      by may false e = refl
-
-      go : (b : Bool) → writable (h .region .access) ≡ b → writeAll st start (ws ++ vs) ≡ andThen start o vs
+      go : (b : Bool) → writable (q .access) ≡ b → CountsOn (length ws) (writeAll st start (ws ++ vs)) (writeAll (o .state) (start + length ws) vs)
       go true may =
-          in-region (h .region) may st start (ws ++ vs) (h .found) (omega (arith, long)) (omega (arith, long, h .count))
-          ∙ words-join st start (h .region .last) 0 ws vs
-          ∙ ap (λ (x : Out). follow x (after x)) (sym (in-region (h .region) may st start ws (h .found) some (omega (arith, h .count))))
-          ∙ by may (eqb (numberOf (o .answer)) 0) refl
+          let n : 0 + length ws ≡ length ws + 0 = omega arith in
+          rw (joined may, eq-eqb (numberOf (o .answer)) 0 e, rest-is may (o .state), n) (words-counted (length ws) (o .state) (start + length ws) (q .last) 0 vs)
+      go false n = let d = ap (λ (x : Out). numberOf (x .answer)) (shut q n st start ws (h .found) some (omega (arith, h .count))) in absurd (omega arith)
+
+  stop : 1 ≤ numberOf (o .answer) → writeAll st start (ws ++ vs) ≡ o
+  stop e = go (writable (q .access)) refl
+    where
+      go : (b : Bool) → writable (q .access) ≡ b → writeAll st start (ws ++ vs) ≡ o
+      go true may = rw (joined may, ne-eqb (numberOf (o .answer)) 0 (λ d. absurd (omega arith)))
       go false n =
-          shut (h .region) n st start (ws ++ vs) (h .found) (omega (arith, long)) (omega (arith, long, h .count))
-          ∙ ap (λ (x : Out). andThen start x vs) (sym (shut (h .region) n st start ws (h .found) some (omega (arith, h .count))))
+          shut q n st start (ws ++ vs) (h .found) (omega (arith, long)) (omega (arith, long, h .count))
+          ∙ sym (shut q n st start ws (h .found) some (omega (arith, h .count)))
 
 -- ---- a write that is answered anything
-
-counted-from-0 : (w : Answer) → countedOn 0 w ≡ w
-counted-from-0 (Done n) = ap Done (omega arith)
-counted-from-0 BadCount = refl
-counted-from-0 NoRegion = refl
-counted-from-0 NoAccess = refl
-counted-from-0 (Beyond n) = ap Beyond (omega arith)
-counted-from-0 (Refused why n) = ap (Refused why) (omega arith)
 
 module _ (st : State) (start count : ℕ) (ws vs : List ℕ) where
   abbrev was : Out
@@ -187,15 +173,6 @@ module _ (st : State) (start count : ℕ) (ws vs : List ℕ) where
 
   p-is : processedOf (was .answer) ≡ length done
   p-is = sym (done-length st start count ws)
-
-  a-is : stopOf st start count ws ≡ start + length done
-  a-is = address-is start (was .answer) ∙ ap (λ (n : ℕ). start + n) p-is
-
-  joined-is : joined start was vs ≡ onFrom (doneFrom st start done) (start + length done) (length done) vs
-  joined-is =
-      ap (λ (x : State). onFrom x (stopOf st start count ws) (processedOf (was .answer)) vs) (written st start count ws .done)
-      ∙ ap (λ (b : ℕ). onFrom (doneFrom st start done) b (processedOf (was .answer)) vs) a-is
-      ∙ ap (λ (n : ℕ). onFrom (doneFrom st start done) (start + length done) n vs) p-is
 
   -- a word was done, so the region may be written
   may-write : (q : Region) → regionOf start ≡ At q → 1 ≤ length done → writable (q .access) ≡ true
@@ -211,48 +188,95 @@ module _ (st : State) (start count : ℕ) (ws vs : List ℕ) where
       go (All a b c d) = at-once a
 
   -- the words done, written by themselves, are answered 0 and leave the same
-  mended : (l : List ℕ) → done ≡ l → Follow start (length l) vs → writeAll st start (l ++ vs) ≡ onFrom (doneFrom st start l) (start + length l) (length l) vs
-  mended [] e f =
+  again : (l : List ℕ) → done ≡ l → Follow start (length l) vs → CountsOn (length l) (writeAll st start (l ++ vs)) (writeAll (doneFrom st start l) (start + length l) vs)
+  again [] e f =
       let z : start + 0 ≡ start = omega arith in
-      rw z (ap (λ (w : Answer). out (writeAll st start vs .state) w) (sym (counted-from-0 (writeAll st start vs .answer))))
-  mended (v ∷ l) e f =
+      rw z record { state = refl; number = refl; words = omega arith }
+  again (v ∷ l) e f =
       let n : 1 ≤ length (v ∷ l) = omega arith in
       let may = may-write (f .region) (f .found) (omega (arith, ap length e)) in
-      let z : 0 + length (v ∷ l) ≡ length (v ∷ l) = omega arith in
-      let again =
+      let y =
       in-region (f .region) may st start (v ∷ l) (f .found) n (omega (arith, f .count))
-      ∙ words-done (f .region) st start 0 (v ∷ l) (subst (AllDone (f .region) st start) e (written st start count ws .all (f .region) (f .found)))
-      ∙ ap (λ (m : ℕ). out (doneFrom st start (v ∷ l)) (Done m)) z in
-      parts st start (v ∷ l) vs n f ∙ ap (λ (x : Out). andThen start x vs) again
+      ∙ words-done (f .region) st start 0 (v ∷ l) (subst (AllDone (f .region) st start) e (written st start count ws .all (f .region) (f .found))) in
+      subst (λ (x : State). CountsOn (length (v ∷ l)) (writeAll st start (v ∷ l ++ vs)) (writeAll x (start + length (v ∷ l)) vs)) (ap (λ (x : Out). x .state) y)
+      (go-on st start (v ∷ l) vs n f (ap (λ (x : Out). numberOf (x .answer)) y))
 
-  same-address : Follow start (length done) vs → (n : ℕ) → length done ≡ n
-      → addressOf start (onFrom (doneFrom st start done) (start + length done) (length done) vs .answer)
-      ≡ addressOf (start + length done) (writeAll (doneFrom st start done) (start + length done) vs .answer)
-  same-address h zero e =
-      let z : start + 0 ≡ start = omega arith in
-      rw (e, z, counted-from-0 (writeAll (doneFrom st start done) start vs .answer))
-  same-address h (suc n) e = address-on start (length done) vs h (may-write (h .region) (h .found) (omega arith)) (doneFrom st start done)
+-- ---- the calls, by their promise
 
-  mended-all : Follow start (length done) vs → writeAll st start (done ++ vs) ≡ joined start was vs
-  mended-all h = mended _ refl h ∙ sym joined-is
+module _ (st : State) (start count : ℕ) (ws : List ℕ) (x : Call) (h : Writes st start count ws x) where
+  reply-is : reply x ≡ replyOf start (writeOf st start count ws .answer)
+  reply-is = ap (λ (r : Written). r .reply) (h .0)
 
-  address-there : Follow start (length done) vs
-      → addressOf start (writeAll st start (done ++ vs) .answer) ≡ addressOf (stopOf st start count ws) (writeOn start was vs .answer)
-  address-there h =
-      ap (λ (x : Out). addressOf start (x .answer)) (mended _ refl h) ∙ same-address h _ refl
-      ∙ sym
-      (ap (λ (x : State). addressOf (stopOf st start count ws) (writeAll x (stopOf st start count ws) vs .answer)) (written st start count ws .done)
-      ∙ ap (λ (a : ℕ). addressOf a (writeAll (doneFrom st start done) a vs .answer)) a-is)
+  after-is : after x ≡ writeOf st start count ws .state
+  after-is =
+      let e : writeOf st start count ws .state .card ≡ x .back .card = sym (ap (λ (r : Written). r .card) (h .0)) in
+      rw (h .1, h .2, sym e)
 
--- WRITING ON FROM THE ADDRESS GIVEN IS WRITING ON
-pub writes-on : WritesOn
-writes-on =
+  write-stops : WriteStops st start count ws x
+  write-stops =
+      record {
+        answered = rw (reply-is, after-is) (write-answered st start count ws);
+        at = rw reply-is (write-stops-at st start count ws);
+        done = rw (reply-is, after-is) (done-below st start count ws);
+      }
+
+read-stops : (st : State) (start count : ℕ) (ws : List ℕ) (r : Reply) (vs : List ℕ) → Reads (st .settings) (st .card) start count ws r vs → ReadStops st start count ws r vs
+read-stops st start count ws r vs h =
     record {
-      parts = parts;
-      mended = mended-all;
-      address = address-there;
+      answered = rw (h .0, h .1) (read-answered st start count ws);
+      at = rw (h .0) (read-stops-at st start count ws);
+      done = rw (h .0, h .1) (read-below st start count ws);
+    }
+
+module _ (st : State) (start count : ℕ) (ws vs : List ℕ) (x : Call) (h : Writes st start count ws x) where
+  abbrev one : Out
+  one = writeOf st start count ws
+
+  abbrev p : ℕ
+  p = processedOf (one .answer)
+
+  -- what holds of the words holds of the calls: the address follows the words done
+  both : (l : List ℕ) (y z : Call) → WritesOn x vs y → WritesAll st start (l ++ vs) z
+      → CountsOn p (writeAll st start (l ++ vs)) (writeAll (one .state) (start + p) vs) → Both z x y
+  both l y z f g c =
+      let r = reply-is st start count ws x h in
+      let a : reply x .address ≡ start + p = ap (λ (w : Reply). w .address) r ∙ address-is start (one .answer) in
+      let f′ : WritesAll (one .state) (start + p) vs y = rw (sym (after-is st start count ws x h), sym a) f in
+      let whole : Answer = writeAll st start (l ++ vs) .answer in
+      let rest : Answer = writeAll (one .state) (start + p) vs .answer in
+      let ry = reply-is _ _ _ _ y f′ in
+      let rz = reply-is _ _ _ _ z g in
+      record {
+        leaves = after-is _ _ _ _ z g ∙ c .state ∙ sym (after-is _ _ _ _ y f′);
+        number = rw (rz, ry) (c .number);
+        address = rw (rz, ry) (omega (arith, address-is start whole, address-is (start + p) rest, c .words));
+        processed = rw (rz, ry, r) (c .words);
+      }
+
+  -- A REFUSED WRITE IS MENDED
+  mended : Follow start (processedOf (reply x .answer)) vs → (y z : Call) → WritesOn x vs y → WritesAll st start (doneBy (reply x) ws ++ vs) z → Both z x y
+  mended k y z f g =
+      let r : processedOf (reply x .answer) ≡ p = ap (λ (w : Reply). processedOf (w .answer)) (reply-is st start count ws x h) in
+      let e : length (wordsDone st start count ws) ≡ p = done-length st start count ws in
+      let c = again st start count ws vs _ refl (rw e (rw r at k)) in
+      both (wordsDone st start count ws) y z f (rw r at g) (rw (e, sym (written st start count ws .done)) at c)
+
+-- IN PARTS
+parts : (st : State) (start : ℕ) (ws vs : List ℕ) → 1 ≤ length ws → Follow start (length ws) vs
+    → (z x : Call) → WritesAll st start (ws ++ vs) z → WritesAll st start ws x → InParts vs z x
+parts st start ws vs some k z x g h =
+    let r = reply-is st start (length ws) ws x h in
+    let n : numberOf (reply x .answer) ≡ numberOf (writeAll st start ws .answer) = ap (λ (w : Reply). numberOf (w .answer)) r in
+    record {
+      on = λ e y f.
+          let e′ = sym n ∙ e in
+          let n′ = all-done start (length ws) _ _ (writeAll st start ws .answer) (written st start (length ws) ws .given) e′ in
+          both st start (length ws) ws vs x h ws y z f g (rw n′ (go-on st start ws vs some k e′));
+      stopped = λ e.
+          let s = stop st start ws vs some k (omega (arith, n)) in
+          (reply-is _ _ _ _ z g ∙ ap (λ (w : Out). replyOf start (w .answer)) s ∙ sym r, after-is _ _ _ _ z g ∙ ap (λ (w : Out). w .state) s ∙ sym (after-is st start (length ws) ws x h));
     }
 
 -- WHERE IT STOPPED
 pub stops : Stops
-stops = record { writes = write-stops-at; reads = read-stops-at; done = done-below; read = read-below; on = writes-on }
+stops = record { write = write-stops; read = read-stops; parts = parts; mended = mended }

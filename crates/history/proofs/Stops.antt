@@ -29,7 +29,7 @@ use Rattle.history.specs.Numbers.{Case, case, first, once, lacks, toWrit
 use Rattle.history.specs.Counted.{WordDone, EachDone, CountedIsDone}
 use Rattle.history.specs.Settings.{wordLeft, leftAt}
 use Rattle.history.specs.Counts.{doesAt}
-use Rattle.history.specs.Stops.{writeReply, readReply, StopsAt, stopOf, wordFor, below, DoneBelow, ReadBelow}
+use Rattle.history.specs.Stops.{StopsAt, wordFor, below, DoneBelow, ReadBelow}
 use Rattle.history.proofs.Addresses.{manual-register}
 use Rattle.history.proofs.Writing.{why-high, Result, written, no-region}
 use Rattle.history.proofs.Reading.{was-read}
@@ -116,14 +116,14 @@ module _ (start count o : ℕ) (f : ℕ → ℕ) (w : Answer) (g : Given o f cou
         fits = λ h. subst (λ (a : ℕ). a < 65536) (sym (address-is start w)) (fits h);
       }
 
-pub write-stops-at : (st : State) (start count : ℕ) (ws : List ℕ) → StopsAt start count (writeReply st start count ws)
+pub write-stops-at : (st : State) (start count : ℕ) (ws : List ℕ) → StopsAt start count (replyOf start (writeOf st start count ws .answer))
 write-stops-at st start count ws =
     stops-at start count _ (writeRefusal (regionOf start) st start ws) _ (written st start count ws .given) (once-low writable (regionOf start) count ws) four (write-fits st start count ws)
   where
     four : (q : Region) → regionOf start ≡ At q → FourBeyond (writeRefusal (regionOf start) st start ws) start (q .last)
     four q e i = rw e (four-beyond q (doneFrom st start (take i ws)) (start + i) (getD ws i 0))
 
-pub read-stops-at : (st : State) (start count : ℕ) (ws : List ℕ) → StopsAt start count (readReply st start count ws)
+pub read-stops-at : (st : State) (start count : ℕ) (ws : List ℕ) → StopsAt start count (replyOf start (readOf (st .settings) (st .card) start count ws .answer))
 read-stops-at st start count ws =
     stops-at start count _ (readRefusal (regionOf start) start) _ (was-read st start count ws .given) (once-low readable (regionOf start) count ws) four
     (read-fits (st .settings) (st .card) start count ws)
@@ -184,6 +184,10 @@ module _ (st : State) (start count : ℕ) (ws : List ℕ) where
   abbrev p : ℕ
   p = processedOf (o .answer)
 
+  -- the address that it gives
+  abbrev stop : ℕ
+  stop = addressOf start (o .answer)
+
   few : p ≤ length ws
   few = go (written st start count ws .given)
     where
@@ -195,10 +199,10 @@ module _ (st : State) (start count : ℕ) (ws : List ℕ) where
   pub done-length : length (wordsDone st start count ws) ≡ processedOf (writeOf st start count ws .answer)
   done-length = length-take-le p ws few
 
-  stop-is : stopOf st start count ws ≡ start + p
+  stop-is : stop ≡ start + p
   stop-is = address-is start (o .answer)
 
-  at-stop : stopOf st start count ws - start ≡ p
+  at-stop : stop - start ≡ p
   at-stop = omega (arith, stop-is)
 
   word-at : length (st .settings) ≡ 16960 → (i : ℕ) → i < p → WordDone (doneFrom st start (take i ws)) (start + i) (getD ws i 0) (doneFrom st start (take (suc i) ws))
@@ -207,7 +211,7 @@ module _ (st : State) (start count : ℕ) (ws : List ℕ) where
       rw (take-take i p ws (omega arith), take-take (suc i) p ws (omega arith), getD-take p ws i 0 h) at
       (each-at st start (wordsDone st start count ws) _ (counted-is-done st l start count ws) i (omega (arith, done-length)))
 
-  each-below : length (st .settings) ≡ 16960 → (a : ℕ) → start ≤ a → a < stopOf st start count ws → WordDone (below st start ws a) a (wordFor start ws a) (below st start ws (a + 1))
+  each-below : length (st .settings) ≡ 16960 → (a : ℕ) → start ≤ a → a < stop → WordDone (below st start ws a) a (wordFor start ws a) (below st start ws (a + 1))
   each-below l a f g =
       let e : start + (a - start) ≡ a = omega arith in
       let n : a + 1 - start ≡ suc (a - start) = omega arith in
@@ -239,18 +243,19 @@ module _ (st : State) (start count : ℕ) (ws : List ℕ) where
       ∙ left-else (start + p) start (wordsDone st start count ws) (readBack st (start + p)) (λ f g. absurd (omega (arith, g, done-length)))
       (λ f g. no-erase i f (omega (arith, g, done-length)))
 
-  pub done-below : DoneBelow st start count ws
+  pub done-below : DoneBelow st start ws (replyOf start (writeOf st start count ws .answer)) (writeOf st start count ws .state)
   done-below =
       let y = written st start count ws in
       record {
         addresses = λ a. does-at a start (wordsDone st start count ws) ∙ ap (λ (n : ℕ). leb start a && ltb a n) (ap (λ (n : ℕ). start + n) done-length ∙ sym stop-is);
         each = each-below;
-        state = y .done ∙ ap (λ (n : ℕ). doneFrom st start (take n ws)) (sym at-stop);
+        leaves = y .done ∙ ap (λ (n : ℕ). doneFrom st start (take n ws)) (sym at-stop);
         kept = λ l i. subst (λ (a : ℕ). readBack (o .state) a ≡ readBack st a) (sym stop-is) (stays l (subst (λ (a : ℕ). isSetting (registerOf a) ≡ true) stop-is i));
         refused = λ h. rw (at-stop, stop-is, y .done) (refused-there _ (y .given) h);
       }
 
-pub read-below : (st : State) (start count : ℕ) (ws : List ℕ) → ReadBelow st start count ws
+pub read-below : (st : State) (start count : ℕ) (ws : List ℕ)
+    → ReadBelow st start (replyOf start (readOf (st .settings) (st .card) start count ws .answer)) (readOf (st .settings) (st .card) start count ws .words)
 read-below st start count ws a f g =
     let w : Answer = readOf (st .settings) (st .card) start count ws .answer in
     let e : start + (a - start) ≡ a = omega arith in

@@ -114,12 +114,16 @@ outcomeOf o = record { card = o .state .card; answer = o .answer }
 abbrev pub Ends : Out → Outcome → Lent → Lent → Type 0
 Ends o r settings tables = (r ≡ outcomeOf o) × (left settings ≡ o .state .settings) × (left tables ≡ o .state .tables)
 
--- what a write from `start` on hands back by value, and the same settings and tables
+-- what a write from `start` on hands back by value
 abbrev pub written : ℕ → Out → Written
 written start o = record { card = o .state .card; reply = replyOf start (o .answer) }
 
-abbrev pub Wrote : ℕ → Out → Written → Lent → Lent → Type 0
-Wrote start o r settings tables = (r ≡ written start o) × (left settings ≡ o .state .settings) × (left tables ≡ o .state .tables)
+-- a write of the first `count` of ws from `start` on: what it hands back, and the settings and tables that it leaves
+abbrev pub Wrote : State → ℕ → ℕ → List ℕ → Written → List ℕ → List ℕ → Type 0
+Wrote st start count ws r settings tables =
+    (r ≡ written start (writeOf st start count ws))
+    × (settings ≡ writeOf st start count ws .state .settings)
+    × (tables ≡ writeOf st start count ws .state .tables)
 
 -- ---- a read: 'fills the slice's first processed words and has no other effect; the rest of the slice stays'
 
@@ -146,6 +150,6 @@ readOf s k start count ws = cond (badCount count (length ws)) (filled ws BadCoun
 abbrev pub Fills : Filled → Answer → Lent → Type 0
 Fills f w words = (w ≡ f .answer) × (left words ≡ f .words)
 
--- what a read from `start` on hands back, and the same words
-abbrev pub Reads : ℕ → Filled → Reply → Lent → Type 0
-Reads start f r words = (r ≡ replyOf start (f .answer)) × (left words ≡ f .words)
+-- a read of `count` words from `start` on, into the first of ws: what it hands back, and the words that it leaves
+abbrev pub Reads : List ℕ → Card → ℕ → ℕ → List ℕ → Reply → List ℕ → Type 0
+Reads s k start count ws r words = (r ≡ replyOf start (readOf s k start count ws .answer)) × (words ≡ readOf s k start count ws .words)

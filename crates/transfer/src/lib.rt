@@ -68,8 +68,8 @@ pub struct Written {
 
 // The card after the words of a write, and their answer.
 struct Outcome {
-    pub card: Card,
-    pub answer: Answer,
+    card: Card,
+    answer: Answer,
 }
 
 // The card after one word, and whether the word was done.
@@ -87,7 +87,7 @@ pub fn write(
     count: usize,
     words: &[u16],
 ) -> Written
-    ensures { λ r. ⌜ Wrote start (writeOf (before card settings tables) start count (lent words)) r settings tables ⌝ }
+    ensures { λ r. ⌜ Wrote (before card settings tables) start count (lent words) r (left settings) (left tables) ⌝ }
 {
     let w = write_from(settings, tables, card, start, count, words);
     let k = w.card;
@@ -106,7 +106,7 @@ pub fn read(
     count: usize,
     words: &mut [u16],
 ) -> Reply
-    ensures { λ r. ⌜ Reads start (readOf (lent settings) card start count (lent words)) r words ⌝ }
+    ensures { λ r. ⌜ Reads (lent settings) card start count (lent words) r (left words) ⌝ }
 {
     replied(start, read_from(settings, card, start, count, words))
 }
