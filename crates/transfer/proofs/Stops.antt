@@ -64,6 +64,11 @@ read-stops s k a last i (suc n) ws h = go (ltb last a) refl (read-stops s k (a +
 
 -- ---- the whole transfer
 
+-- the words of a region that has the access, or 3
+either : {O : Type 0} (answer : O → Answer) (a last : ℕ) (x y : O) → StopsBy a 0 last (answer x) → StopsBy a 0 last (answer y) → (b : Bool) → StopsBy a 0 last (answer (cond b x y))
+either answer a last x y h k true = h
+either answer a last x y h k false = k
+
 -- whatever a transfer from `start` on comes to, o for a bad count and f of the region that is found: it stops within 16 bits
 module _ {O : Type 0} (answer : O → Answer) (start : ℕ) (o : O) (f : Found → O) where
   stops-low : start < 65536 → processedOf (answer o) ≡ 0 → processedOf (answer (f Nothing)) ≡ 0
@@ -83,18 +88,12 @@ pub write-fits : (st : State) (start count : ℕ) (ws : List ℕ) → start < 65
 unfolding writeOf
 write-fits st start count ws h =
     stops-low (λ (o : Out). o .answer) start (out st BadCount) (writeIn st start count ws) h refl refl
-    (λ q g. may q g (writable (q .access))) (badCount count (length ws))
-  where
-    may : (q : Region) → start ≤ q .last + 1 → (b : Bool) → StopsBy start 0 (q .last) (cond b (writeWords st start (q .last) 0 (take count ws)) (out st NoAccess) .answer)
-    may q g true = write-stops st start (q .last) 0 (take count ws) g
-    may q g false = omega arith
+    (λ q g. either (λ (o : Out). o .answer) start (q .last) _ _ (write-stops st start (q .last) 0 (take count ws) g) (omega arith) (writable (q .access)))
+    (badCount count (length ws))
 
 pub read-fits : (s : List ℕ) (k : Card) (start count : ℕ) (ws : List ℕ) → start < 65536 → start + processedOf (readOf s k start count ws .answer) < 65536
 unfolding readOf
 read-fits s k start count ws h =
     stops-low (λ (f : Filled). f .answer) start (filled ws BadCount) (readIn s k start count ws) h refl refl
-    (λ q g. may q g (readable (q .access))) (badCount count (length ws))
-  where
-    may : (q : Region) → start ≤ q .last + 1 → (b : Bool) → StopsBy start 0 (q .last) (cond b (readWords s k start (q .last) 0 count ws) (filled ws NoAccess) .answer)
-    may q g true = read-stops s k start (q .last) 0 count ws g
-    may q g false = omega arith
+    (λ q g. either (λ (f : Filled). f .answer) start (q .last) _ _ (read-stops s k start (q .last) 0 count ws g) (omega arith) (readable (q .access)))
+    (badCount count (length ws))
