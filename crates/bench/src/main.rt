@@ -1,5 +1,7 @@
 // The bench program: the line program's frames and one frame for every further call, from standard input to standard output. It starts on a
 // fresh card of edition 1.
+#![tactic(auto)]
+
 ghost use Rattle.std.specs.Prelude.{◌+◌, ◌<◌, ◌≤◌, length};
 ghost use Rattle.bench.specs.Room.{longest, last_room, Short};
 

@@ -1,7 +1,6 @@
 -- The card: its edition, four channels, the level counts, the active trigger and the pending one; beside it the lent words. The wave tables,
 -- which only ticks read, are beside the state.
 use Rattle.std.specs.Prelude.{◌≡◌, Bool, ◌||◌, cond, List, [], ◌∷◌, ℕ, ltb, get_or, set}
-use Rattle.word.specs.Lent.{Lent, lent, left}
 use Rattle.channel.specs.declared.Channel.{Channel}
 use Rattle.channel.specs.declared.Phase.TheVariants.{Rest}
 use Rattle.channel.specs.Ramp.{place}
@@ -20,16 +19,16 @@ state k s l = record { card = k; settings = s; tables = l }
 -- ---- a call: the state that it finds, and the one that it leaves
 
 -- the card handed over, the settings and the tables lent
-abbrev pub before : Card → Lent → Lent → State
-before k settings tables = state k (lent settings) (lent tables)
+abbrev pub before : Card → List ℕ → List ℕ → State
+before k settings tables = state k settings tables
 
 -- the card handed back and the tables left are those of a state; the settings stay
-abbrev pub Leaves : State → Card → Lent → Type 0
-Leaves st k tables = (k ≡ st.card) × (left tables ≡ st.tables)
+abbrev pub Leaves : State → Card → List ℕ → Type 0
+Leaves st k tables = (k ≡ st.card) × (tables ≡ st.tables)
 
 -- the same of a call that may write the settings too
-abbrev pub LeavesWhole : State → Card → Lent → Lent → Type 0
-LeavesWhole st k settings tables = (k ≡ st.card) × (left settings ≡ st.settings) × (left tables ≡ st.tables)
+abbrev pub LeavesWhole : State → Card → List ℕ → List ℕ → Type 0
+LeavesWhole st k settings tables = (k ≡ st.card) × (settings ≡ st.settings) × (tables ≡ st.tables)
 
 -- ---- the card's parts
 
@@ -79,5 +78,5 @@ abbrev pub on_some : (ℕ → Bool) → Bool
 on_some f = f 0 || f 1 || f 2 || f 3
 
 -- the four channels handed back, in a card that is else `k`, and the tables left
-abbrev pub LeavesAll : All → Card → Card → Lent → Type 0
-LeavesAll x k r tables = (r ≡ with_channels k x.channels) × (left tables ≡ x.tables)
+abbrev pub LeavesAll : All → Card → Card → List ℕ → Type 0
+LeavesAll x k r tables = (r ≡ with_channels k x.channels) × (tables ≡ x.tables)

@@ -1,6 +1,7 @@
 // The card: four channels, triggers, clock events and ticks. Settings, loaded tables and wave tables are lent, the rest goes by value.
+#![tactic(auto)]
+
 ghost use Rattle.std.specs.Prelude.{◌≡◌, cond};
-ghost use Rattle.word.specs.Lent.{lent, left};
 ghost use Rattle.channel.specs.Channel.{sounded};
 ghost use Rattle.card.specs.Card.{before, Leaves, LeavesWhole, LeavesAll, no_channel, channel_of, with_channel, count_of, with_count};
 ghost use Rattle.card.specs.Active.{cause, some_loaded, showing};
@@ -37,7 +38,7 @@ pub fn fresh(
     waves: &mut [u16; 4096],
     edition: Edition,
 ) -> Card
-    ensures { LeavesWhole (fresh_of edition (lent settings) (lent tables)) result settings tables × (left waves ≡ waves_reset (lent waves)) }
+    ensures { LeavesWhole (fresh_of edition settings.old tables.old) result settings.new tables.new × (waves.new ≡ waves_reset waves.old) }
 {
     reset_settings(settings);
     slots::fill(tables, 0, 512, 0);
@@ -52,7 +53,7 @@ pub fn reset(
     waves: &mut [u16; 4096],
     card: Card,
 ) -> Card
-    ensures { LeavesWhole (reset_of (before card settings tables)) result settings tables × (left waves ≡ waves_reset (lent waves)) }
+    ensures { LeavesWhole (reset_of (before card settings.old tables.old)) result settings.new tables.new × (waves.new ≡ waves_reset waves.old) }
 {
     let edition = card.edition;
     fresh(settings, tables, waves, edition)
@@ -66,7 +67,7 @@ pub fn tick(
     card: Card,
     event: u16,
 ) -> Card
-    ensures { Leaves (tick_with (lent waves) (before card settings tables) event) result tables }
+    ensures { Leaves (tick_with waves.now (before card settings.now tables.old) event) result tables.new }
 {
     let k = advance(settings, tables, waves, card);
     receive(settings, tables, k, event)
@@ -80,7 +81,7 @@ pub fn run(
     card: Card,
     n: u32,
 ) -> Card
-    ensures { Leaves (ticks (lent waves) n (before card settings tables)) result tables }
+    ensures { Leaves (ticks waves.now n (before card settings.now tables.old)) result tables.new }
 {
     let mut k = card;
     let mut i: u32 = 0;
@@ -99,7 +100,7 @@ pub fn trigger(
     level: u16,
     event: u16,
 ) -> Card
-    ensures { Leaves (trigger_of (before card settings tables) level event) result tables }
+    ensures { Leaves (trigger_of (before card settings.now tables.old) level event) result tables.new }
 {
     let k = count_trigger(strike(settings, tables, card, level), level);
     show(keep(k, level, event))
@@ -152,7 +153,7 @@ fn advance(
     waves: &[u16; 4096],
     card: Card,
 ) -> Card
-    ensures { Leaves (advanced (lent waves) (before card settings tables)) result tables }
+    ensures { Leaves (advanced waves.now (before card settings.now tables.old)) result tables.new }
 {
     let edition = card.edition;
     let a = channel::move_ramp(settings, tables, edition, 0, card.channels[0]);
@@ -178,7 +179,7 @@ fn advance(
 
 // A channel after the second pass, which has nothing to do where no sample was given: nine times in ten.
 fn output_made(waves: &[u16; 4096], c: u16, t: Ticked) -> Channel
-    ensures { result ≡ sounded (lent waves) c t.channel t.gave }
+    ensures { result ≡ sounded waves.now c t.channel t.gave }
 {
     let gave = t.gave;
     match gave {
@@ -190,7 +191,7 @@ fn output_made(waves: &[u16; 4096], c: u16, t: Ticked) -> Channel
 
 // Every channel's countdown is set anew for a level.
 fn strike(settings: &[u16; 16960], tables: &mut [u16; 512], card: Card, level: u16) -> Card
-    ensures { LeavesAll (struck (before card settings tables) level) card result tables }
+    ensures { LeavesAll (struck (before card settings.now tables.old) level) card result tables.new }
 {
     let a = channel::trigger(settings, tables, 0, card.channels[0], level);
     let b = channel::trigger(settings, tables, 1, card.channels[1], level);
@@ -281,7 +282,7 @@ fn count_trigger(card: Card, level: u16) -> Card
 
 // The level of the accepted trigger that an event is, if it is one.
 fn accepted(settings: &[u16; 16960], event: u16) -> Holder
-    ensures { result ≡ accepted_of (lent settings) event }
+    ensures { result ≡ accepted_of settings.now event }
 {
     if event == 0xFE {
         return Holder::Nobody;
@@ -295,7 +296,7 @@ fn accepted(settings: &[u16; 16960], event: u16) -> Holder
 
 // An event received.
 fn receive(settings: &[u16; 16960], tables: &mut [u16; 512], card: Card, event: u16) -> Card
-    ensures { Leaves (event_of (before card settings tables) event) result tables }
+    ensures { Leaves (event_of (before card settings.now tables.old) event) result tables.new }
 {
     match accepted(settings, event) {
         Holder::Level(level) => trigger(settings, tables, card, level, event),
@@ -304,7 +305,7 @@ fn receive(settings: &[u16; 16960], tables: &mut [u16; 512], card: Card, event: 
 }
 
 fn reset_settings(settings: &mut [u16; 16960])
-    ensures { left settings ≡ settings_reset (lent settings) }
+    ensures { settings.new ≡ settings_reset settings.old }
 {
     slots::fill(settings, 0, 16960, 0);
     slots::fill(settings, 0x0860, 32, 0x0100);

@@ -2,7 +2,6 @@
 -- stand one after the other, 128 words a channel. A tick has two passes: the ramp's value moves, then the signal is made.
 use Rattle.std.specs.Prelude.{◌≡◌, ℕ, ◌-◌, ◌*◌, max, Bool, true, false, cond, List, ◌==◌, slice_index}
 use Rattle.word.specs.Word.{lasting}
-use Rattle.word.specs.Lent.{Lent, left}
 use Rattle.word.specs.Copy.{copied}
 use Rattle.sum.specs.declared.Edition.{Edition}
 use Rattle.map.specs.Addresses.{table_at, ramp_map_at, scale_map_at, scale_at, offset_map_at, offset_at, delay_at, frequency_map_at, frequency_at, phase_map_at, phase_at, enable_at, mode_at}
@@ -39,8 +38,8 @@ abbrev pub side : Channel → List ℕ → Side
 side ch l = record { channel = ch; tables = l }
 
 -- the channel handed back and the tables left are those of a side
-abbrev pub Leaves : Side → Channel → Lent → Type 0
-Leaves x ch tables = (ch ≡ x.channel) × (left tables ≡ x.tables)
+abbrev pub Leaves : Side → Channel → List ℕ → Type 0
+Leaves x ch tables = (ch ≡ x.channel) × (tables ≡ x.tables)
 
 abbrev pub with : Channel → Phase → Shown → Channel
 with ch p s = record { phase = p; level = ch.level; loaded = ch.loaded; shown = s; signal = ch.signal }
@@ -176,8 +175,8 @@ move_of edition s l c ch = move_at edition ch.phase s l c ch
 abbrev pub ticked : Move → Ticked
 ticked x = record { channel = x.channel; gave = x.gave }
 
-abbrev pub Moves : Move → Ticked → Lent → Type 0
-Moves x t tables = (t ≡ ticked x) × (left tables ≡ x.tables)
+abbrev pub Moves : Move → Ticked → List ℕ → Type 0
+Moves x t tables = (t ≡ ticked x) × (tables ≡ x.tables)
 
 -- ---- second pass: its signal is made, with the wave tables w
 

@@ -1,8 +1,9 @@
 // One channel: its phase, its countdown, the load, the start, the samples of its ramp and the output that is made of them.
 // Settings are lent by address; loaded tables and wave tables one after the other, 128 and 1,024 words a channel.
+#![tactic(auto)]
+
 ghost use Rattle.std.specs.Prelude.{◌≡◌, ◌+◌, ◌-◌, ◌*◌, if◌then◌else◌};
 ghost use Rattle.word.specs.Word.{grown};
-ghost use Rattle.word.specs.Lent.{lent, left};
 ghost use Rattle.word.specs.Copy.{copied};
 ghost use Rattle.channel.specs.Ramp.{enter, next, sample_at, put, is_sine, free_runs, ended, onward, given, advance};
 ghost use Rattle.channel.specs.Signal.{overflows, counter_at, counter_next, signal_after, sine_after, make_of};
@@ -116,7 +117,7 @@ pub fn move_ramp(
     c: u16,
     ch: Channel,
 ) -> Ticked
-    ensures { Moves (move_of edition (lent settings) (lent tables) c ch) result tables }
+    ensures { Moves (move_of edition settings.now tables.old c ch) result tables.new }
 {
     let p = ch.phase;
     match p {
@@ -129,7 +130,7 @@ pub fn move_ramp(
 
 // Second pass: its output is made of the sample that it gave.
 pub fn make_output(waves: &[u16; 4096], c: u16, t: Ticked) -> Channel
-    ensures { result ≡ sounded (lent waves) c t.channel t.gave }
+    ensures { result ≡ sounded waves.now c t.channel t.gave }
 {
     let gave = t.gave;
     let ch = t.channel;
@@ -148,7 +149,7 @@ pub fn trigger(
     ch: Channel,
     level: u16,
 ) -> Channel
-    ensures { Leaves (triggered (lent settings) (lent tables) c ch level) result tables }
+    ensures { Leaves (triggered settings.now tables.old c ch level) result tables.new }
 {
     let d = word_at(settings, c, 0x8E0, level);
     if d <= 10 {
@@ -194,7 +195,7 @@ pub fn just_loaded(ch: Channel) -> bool
 
 // Table number, scale factor, offset and tone that the maps give a level.
 pub fn settings_for(settings: &[u16], c: u16, level: u16) -> Loaded
-    ensures { result ≡ loaded_for (lent settings) c level }
+    ensures { result ≡ loaded_for settings.now c level }
 {
     let table = word_at(settings, c, 0x800, level);
     let scale_entry = word_at(settings, c, 0x840, level);
@@ -309,7 +310,7 @@ fn moved_on(ch: Channel, m: Moved) -> Ticked
 
 // The channel after one tick of the ramp on its way; nine times in ten it only waits.
 fn run_on(tables: &[u16], edition: Edition, c: u16, ch: Channel, w: Way) -> Ticked
-    ensures { result ≡ ticked (moved_on ch (lent tables) (advance edition (lent tables) (first_of c) ch.loaded (Ramp.Going w) ch.shown)) }
+    ensures { result ≡ ticked (moved_on ch tables.now (advance edition tables.now (first_of c) ch.loaded (Ramp.Going w) ch.shown)) }
 {
     let wait = w.wait.0;
     if 1 < wait {
@@ -323,7 +324,7 @@ fn run_on(tables: &[u16], edition: Edition, c: u16, ch: Channel, w: Way) -> Tick
 
 // The channel after one tick of its ramp.
 fn run(tables: &[u16], edition: Edition, c: u16, ch: Channel, ramp: Ramp) -> Ticked
-    ensures { result ≡ ticked (moved_on ch (lent tables) (advance edition (lent tables) (first_of c) ch.loaded ramp ch.shown)) }
+    ensures { result ≡ ticked (moved_on ch tables.now (advance edition tables.now (first_of c) ch.loaded ramp ch.shown)) }
 {
     let loaded = ch.loaded;
     let shown = ch.shown;
@@ -340,7 +341,7 @@ fn count(
     n: Micros,
     older: Ramp,
 ) -> Ticked
-    ensures { Moves (count_to edition (n.0 - 1) older (lent settings) (lent tables) c ch) result tables }
+    ensures { Moves (count_to edition (n.0 - 1) older settings.now tables.old c ch) result tables.new }
 {
     let d = n.0;
     if d <= 1 {
@@ -363,7 +364,7 @@ fn count(
 
 // The load for a level: an older ramp or free run is aborted, its output held, and the settings are copied.
 fn load_level(settings: &[u16], tables: &mut [u16], c: u16, ch: Channel, level: u16) -> Channel
-    ensures { Leaves (load (lent settings) (lent tables) c ch level) result tables }
+    ensures { Leaves (load settings.now tables.old c ch level) result tables.new }
 {
     let loaded = settings_for(settings, c, level);
     copy_table(settings, tables, c, loaded.table);
@@ -386,7 +387,7 @@ fn load_level(settings: &[u16], tables: &mut [u16], c: u16, ch: Channel, level: 
 
 // A01, and the frequency and phase that the maps give a level.
 fn tone_for(settings: &[u16], c: u16, level: u16) -> Tone
-    ensures { result ≡ tone_for (lent settings) c level }
+    ensures { result ≡ tone_for settings.now c level }
 {
     let mode = word::get(settings, (c as usize) * 0x1000 + 0xA01);
     let frequency_entry = word_at(settings, c, 0x900, level);
@@ -400,7 +401,7 @@ fn tone_for(settings: &[u16], c: u16, level: u16) -> Tone
 
 // The 128 words of table r of channel c, copied to the channel's loaded table.
 fn copy_table(settings: &[u16], tables: &mut [u16], c: u16, r: u16)
-    ensures { left tables ≡ copied 128 (lent settings) (c * 0x1000 + 128 * r) (lent tables) (first_of c) }
+    ensures { tables.new ≡ copied 128 settings.now (c * 0x1000 + 128 * r) tables.old (first_of c) }
 {
     word::copy(
         settings,
@@ -413,7 +414,7 @@ fn copy_table(settings: &[u16], tables: &mut [u16], c: u16, r: u16)
 
 // The word of channel c at an offset from its base, and an index past that.
 fn word_at(settings: &[u16], c: u16, offset: u16, index: u16) -> u16
-    ensures { result ≡ word (lent settings) (c * 0x1000 + offset + index) }
+    ensures { result ≡ word settings.now (c * 0x1000 + offset + index) }
 {
     word::get(
         settings,
@@ -423,7 +424,7 @@ fn word_at(settings: &[u16], c: u16, offset: u16, index: u16) -> u16
 
 // At countdown 0: the ramp starts if the waveform is enabled.
 fn start_ramp(settings: &[u16], tables: &[u16], edition: Edition, c: u16, ch: Channel) -> Ticked
-    ensures { result ≡ ticked (start edition (lent settings) (lent tables) c ch) }
+    ensures { result ≡ ticked (start edition settings.now tables.now c ch) }
 {
     let loaded = ch.loaded;
     let shown = ch.shown;
@@ -447,7 +448,7 @@ fn start_ramp(settings: &[u16], tables: &[u16], edition: Edition, c: u16, ch: Ch
 
 // One tick of a ramp.
 fn step(tables: &[u16], edition: Edition, c: u16, loaded: Loaded, ramp: Ramp, shown: Shown) -> Moved
-    ensures { result ≡ advance edition (lent tables) (first_of c) loaded ramp shown }
+    ensures { result ≡ advance edition tables.now (first_of c) loaded ramp shown }
 {
     match ramp {
         Ramp::Still => unsampled(Ramp::Still, shown),
@@ -517,7 +518,7 @@ fn sample_given(
     p: Place,
     shown: Shown,
 ) -> Moved
-    ensures { result ≡ given edition first (lent tables) (first_of c) loaded period.0 p shown }
+    ensures { result ≡ given edition first tables.now (first_of c) loaded period.0 p shown }
 {
     let sum = sample_at(tables, edition, c, loaded, p);
     let after = shown_after(sum, p, shown);
@@ -602,7 +603,7 @@ fn with_signal(ch: Channel, signal: Signal) -> Channel
 
 // The channel once a ramp's sample is given.
 fn ramp_output(waves: &[u16; 4096], c: u16, ch: Channel, first: bool, sum: Sum) -> Channel
-    ensures { result ≡ sounded (lent waves) c ch (Gave.OfRamp first sum) }
+    ensures { result ≡ sounded waves.now c ch (Gave.OfRamp first sum) }
 {
     let tone = ch.loaded.tone;
     let signal = ch.signal;
@@ -612,7 +613,7 @@ fn ramp_output(waves: &[u16; 4096], c: u16, ch: Channel, first: bool, sum: Sum) 
 
 // The channel once a free run's sample is given.
 fn free_output(waves: &[u16; 4096], c: u16, ch: Channel) -> Channel
-    ensures { result ≡ sounded (lent waves) c ch Gave.OfFreeRun }
+    ensures { result ≡ sounded waves.now c ch Gave.OfFreeRun }
 {
     let tone = ch.loaded.tone;
     let signal = ch.signal;
@@ -630,7 +631,7 @@ fn ramp_signal(
     amplitude: u16,
     signal: Signal,
 ) -> Signal
-    ensures { result ≡ make_of (lent waves) c (Gave.OfRamp first sum) tone amplitude signal }
+    ensures { result ≡ make_of waves.now c (Gave.OfRamp first sum) tone amplitude signal }
 {
     let mode = tone.mode;
     let n = signal.counter;
@@ -643,7 +644,7 @@ fn ramp_signal(
 
 // What a free run's sample makes.
 fn free_signal(waves: &[u16; 4096], c: u16, tone: Tone, amplitude: u16, signal: Signal) -> Signal
-    ensures { result ≡ make_of (lent waves) c Gave.OfFreeRun tone amplitude signal }
+    ensures { result ≡ make_of waves.now c Gave.OfFreeRun tone amplitude signal }
 {
     let next = counter_next(tone, signal.counter);
     sine_after(waves, c, next, amplitude, false, signal)
@@ -658,7 +659,7 @@ fn sine_after(
     over: bool,
     signal: Signal,
 ) -> Signal
-    ensures { result ≡ sine_after (lent waves) c n amplitude over signal }
+    ensures { result ≡ sine_after waves.now c n amplitude over signal }
 {
     signal_after(wave::sine(waves, c, n, amplitude), over, n, signal)
 }
@@ -718,7 +719,7 @@ fn is_overflow(sum: Sum) -> bool
 
 // The sample at a place.
 fn sample_at(tables: &[u16], edition: Edition, c: u16, loaded: Loaded, p: Place) -> Sum
-    ensures { result ≡ sample_at edition (lent tables) (first_of c) loaded p }
+    ensures { result ≡ sample_at edition tables.now (first_of c) loaded p }
 {
     let n = p.segment as usize;
     let left = p.left;
@@ -750,7 +751,7 @@ fn sample_at(tables: &[u16], edition: Edition, c: u16, loaded: Loaded, p: Place)
 
 // The place of the sample after the one at p.
 fn next_place(tables: &[u16], c: u16, p: Place) -> Place
-    ensures { result ≡ next (lent tables) (first_of c) p }
+    ensures { result ≡ next tables.now (first_of c) p }
 {
     let left = p.left;
     let m = left.0;
@@ -765,7 +766,7 @@ fn next_place(tables: &[u16], c: u16, p: Place) -> Place
 
 // The place of the sample at point n.
 fn point(tables: &[u16], c: u16, n: u16) -> Place
-    ensures { result ≡ enter (lent tables) (first_of c) n }
+    ensures { result ≡ enter tables.now (first_of c) n }
 {
     let first = 128 * (c as usize);
     let step = Samples(word::get(tables, first + 2 * (n as usize) + 1));

@@ -1,14 +1,15 @@
 // Hexadecimal digits: numbers read from lent bytes, and written into them. Past the end of lent bytes a byte is read as 0, and nothing is stored.
+#![tactic(auto)]
+
 ghost use Rattle.std.specs.Prelude.{◌≡◌, ◌<◌, get_or, set, take};
 ghost use Rattle.std.proofs.lemmas.List.Edits.{sets};
-ghost use Rattle.word.specs.Lent.{lent, left};
 ghost use Rattle.digits.specs.Digits.{is_digit, value_of, all_digits, byte_at, word_at, words_from, digit_of, hex2, hex4, hex_all};
 
 // ---- digits read
 
 // Every byte is a digit.
 pub fn all_digits(s: &[u8]) -> bool
-    ensures { result ≡ all_digits (lent s) }
+    ensures { result ≡ all_digits s.now }
 {
     let mut i = 0;
     while i < s.len() {
@@ -22,7 +23,7 @@ pub fn all_digits(s: &[u8]) -> bool
 
 // The two digits from place i on.
 pub fn byte_at(s: &[u8], i: usize) -> u16
-    ensures { (result ≡ byte_at (lent s) i) × (result < 256) }
+    ensures { (result ≡ byte_at s.now i) × (result < 256) }
 {
     if s.len() <= i {
         return 0;
@@ -32,7 +33,7 @@ pub fn byte_at(s: &[u8], i: usize) -> u16
 
 // The four digits from place i on.
 pub fn word_at(s: &[u8], i: usize) -> u16
-    ensures { result ≡ word_at (lent s) i }
+    ensures { result ≡ word_at s.now i }
 {
     if s.len() <= i {
         return 0;
@@ -42,7 +43,7 @@ pub fn word_at(s: &[u8], i: usize) -> u16
 
 // n words of four digits from place `at` on, stored in the first n words.
 pub fn words(s: &[u8], at: u16, n: u16, words: &mut [u16])
-    ensures { left words ≡ sets (lent words) 0 (words_from at n (lent s)) }
+    ensures { words.new ≡ sets words.old 0 (words_from at n s.now) }
 {
     let from = at as usize;
     let count = n as usize;
@@ -57,7 +58,7 @@ pub fn words(s: &[u8], at: u16, n: u16, words: &mut [u16])
 
 // Stores a byte at a place.
 pub fn put(out: &mut [u8], at: usize, b: u8)
-    ensures { left out ≡ set (lent out) at b }
+    ensures { out.new ≡ set out.old at b }
 {
     if at < out.len() {
         out[at] = b;
@@ -66,7 +67,7 @@ pub fn put(out: &mut [u8], at: usize, b: u8)
 
 // Two digits from place `at` on.
 pub fn put2(out: &mut [u8], at: usize, x: usize)
-    ensures { left out ≡ sets (lent out) at (hex2 x) }
+    ensures { out.new ≡ sets out.old at (hex2 x) }
 {
     if out.len() <= at {
         return;
@@ -77,7 +78,7 @@ pub fn put2(out: &mut [u8], at: usize, x: usize)
 
 // Four digits.
 pub fn put4(out: &mut [u8], at: usize, x: usize)
-    ensures { left out ≡ sets (lent out) at (hex4 x) }
+    ensures { out.new ≡ sets out.old at (hex4 x) }
 {
     if out.len() <= at {
         return;
@@ -88,7 +89,7 @@ pub fn put4(out: &mut [u8], at: usize, x: usize)
 
 // The first n words, four digits each; all of them where there are fewer.
 pub fn put_words(out: &mut [u8], at: usize, words: &[u16], n: u16)
-    ensures { left out ≡ sets (lent out) at (hex_all (take n (lent words))) }
+    ensures { out.new ≡ sets out.old at (hex_all (take n words.now)) }
 {
     if out.len() <= at {
         return;
@@ -139,7 +140,7 @@ fn digit(n: usize) -> u8
 
 // The byte at a place.
 fn get(s: &[u8], i: usize) -> u8
-    ensures { result ≡ get_or (lent s) i 0 }
+    ensures { result ≡ get_or s.now i 0 }
 {
     if i < s.len() { s[i] } else { 0 }
 }

@@ -1,7 +1,6 @@
 -- 'Answer line': the answer to a line, and the state after it.
 use Rattle.std.specs.Prelude.{◌≡◌, Bool, true, false, not, ◌&&◌, ◌||◌, List, [], ◌∷◌, ◌++◌, ℕ, ◌+◌, ◌≤◌, eqb, length, take, replicate}
 use Rattle.std.proofs.lemmas.List.Edits.{sets}
-use Rattle.word.specs.Lent.{Lent, lent, left}
 use Rattle.digits.specs.Digits.{byte_at, hex2, hex4, hex_all}
 use Rattle.card.specs.declared.Card.{Card}
 use Rattle.card.specs.Card.{State, state, channel_of}
@@ -85,5 +84,5 @@ pub record Answers (d : Step) (at : ℕ) (before after settings tables : List �
   pub puts : Puts d.text at before after r.end
 
 -- the same of a call: the buffer as it is lent and left, and the memory left
-abbrev pub Gives : Step → ℕ → Lent → Lent → Lent → Answered → Type 0
-Gives d at out settings tables r = Answers d at (lent out) (left out) (left settings) (left tables) r
+abbrev pub Gives : Step → ℕ → List ℕ → List ℕ → List ℕ → List ℕ → Answered → Type 0
+Gives d at out out' settings tables r = Answers d at out out' settings tables r

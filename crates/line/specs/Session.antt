@@ -2,7 +2,6 @@
 -- beside it.
 use Rattle.std.specs.Prelude.{◌≡◌, cond, List, [], ◌∷◌, ◌++◌, ℕ, zero, suc, ◌+◌, ◌≤◌, min, eqb, ltb, leb, length, take, drop, set}
 use Rattle.std.proofs.lemmas.List.Edits.{sets}
-use Rattle.word.specs.Lent.{Lent, lent, left}
 use Rattle.sum.specs.declared.Edition.TheVariants.{First}
 use Rattle.card.specs.declared.Card.{Card}
 use Rattle.card.specs.Card.{State, state}
@@ -70,8 +69,8 @@ abbrev pub opened : Card → List ℕ → List ℕ → List ℕ → ℕ → Flow
 opened k s l line held = flow (state k s l) line (min held most) []
 
 -- the same of what it is lent
-abbrev pub found : Card → Lent → Lent → Lent → ℕ → Flow
-found k settings tables line held = opened k (lent settings) (lent tables) (lent line) held
+abbrev pub found : Card → List ℕ → List ℕ → List ℕ → ℕ → Flow
+found k settings tables line held = opened k settings tables line held
 
 -- a line ends: it is answered
 unfoldable pub ended : List ℕ → Flow → Flow
@@ -131,15 +130,15 @@ pub record Finished (w : List ℕ) (t : Flow) (before after settings tables line
   pub fits : r.end ≤ length before
 
 -- the same of a call: the buffer as it is lent and left, and the memory left
-abbrev pub Takes : List ℕ → Flow → Lent → Lent → Lent → Lent → Lent → Stream → Type 0
-Takes w t chunk out settings tables line r = Fed w t (lent chunk) (lent out) (left out) (left settings) (left tables) (left line) r
+abbrev pub Takes : List ℕ → Flow → List ℕ → List ℕ → List ℕ → List ℕ → List ℕ → List ℕ → Stream → Type 0
+Takes w t chunk out out' settings tables line r = Fed w t chunk out out' settings tables line r
 
-abbrev pub Finishes : List ℕ → Flow → Lent → Lent → Lent → Lent → Stream → Type 0
-Finishes w t out settings tables line r = Finished w t (lent out) (left out) (left settings) (left tables) (lent line) r
+abbrev pub Finishes : List ℕ → Flow → List ℕ → List ℕ → List ℕ → List ℕ → List ℕ → Stream → Type 0
+Finishes w t out out' settings tables line r = Finished w t out out' settings tables line r
 
 -- a line that ends at a call
-abbrev pub Ends : List ℕ → Flow → ℕ → Lent → Lent → Lent → Lent → Answered → Type 0
-Ends w t at out settings tables line r = Feeds (ended w t) at (lent out) (left out) (left settings) (left tables) (lent line) r.card 0 r.end
+abbrev pub Ends : List ℕ → Flow → ℕ → List ℕ → List ℕ → List ℕ → List ℕ → List ℕ → Answered → Type 0
+Ends w t at out out' settings tables line r = Feeds (ended w t) at out out' settings tables line r.card 0 r.end
 
 -- keeping a byte: the buffer before and after, and how many bytes it holds
 pub record Keeps (before : List ℕ) (held b : ℕ) (after : List ℕ) (r : ℕ) : Type 0 where

@@ -1,7 +1,8 @@
 // Lines: frames of hexadecimal, their answers, and the stream of lines over one card.
+#![tactic(auto)]
+
 ghost use Rattle.std.specs.Prelude.{◌≡◌, [], ◌+◌, ◌^◌, ◌≤◌, ◌<◌, replicate};
 ghost use Rattle.std.proofs.lemmas.List.Edits.{sets};
-ghost use Rattle.word.specs.Lent.{lent, left};
 ghost use Rattle.digits.specs.Digits.{hex2};
 ghost use Rattle.sum.specs.declared.Edition.TheVariants.{First};
 ghost use Rattle.card.specs.Card.{before, LeavesWhole, channel_of};
@@ -43,7 +44,7 @@ pub struct Stream {
 
 // The fresh card on which a session starts: edition 1.
 pub fn start(settings: &mut [u16; 16960], tables: &mut [u16; 512], waves: &mut [u16; 4096]) -> Card
-    ensures { LeavesWhole (fresh_of First (lent settings) (lent tables)) result settings tables × (left waves ≡ waves_reset (lent waves)) }
+    ensures { LeavesWhole (fresh_of First settings.old tables.old) result settings.new tables.new × (waves.new ≡ waves_reset waves.old) }
 {
     card::fresh(settings, tables, waves, Edition::First)
 }
@@ -59,7 +60,7 @@ pub fn feed(
     held: usize,
     chunk: &[u8],
 ) -> Stream
-    ensures { Takes (lent waves) (found card settings tables line held) chunk out settings tables line result }
+    ensures { Takes waves.now (found card settings.old tables.old line.old held) chunk.now out.old out.new settings.new tables.new line.new result }
 {
     let mut k = card;
     let mut h = word::least(held, 263);
@@ -93,7 +94,7 @@ pub fn finish(
     card: Card,
     held: usize,
 ) -> Stream
-    ensures { Finishes (lent waves) (found card settings tables line held) out settings tables line result }
+    ensures { Finishes waves.now (found card settings.old tables.old line.now held) out.old out.new settings.new tables.new line.now result }
 {
     let h = word::least(held, 263);
     if h == 0 {
@@ -115,14 +116,14 @@ pub fn answer_line(
     line: &[u8],
     out: &mut [u8],
 ) -> Answered
-    ensures { Gives (step_of (lent waves) (before card settings tables) (lent line)) 0 out settings tables result }
+    ensures { Gives (step_of waves.now (before card settings.old tables.old) line.now) 0 out.old out.new settings.new tables.new result }
 {
     answer(settings, tables, waves, card, line, out, 0)
 }
 
 // A line's answer is FF, or a transfer's with a number that is not 0.
 pub fn refused(answer: &[u8]) -> bool
-    ensures { result ≡ refused_in (lent answer) }
+    ensures { result ≡ refused_in answer.now }
 {
     let number = digits::byte_at(answer, 2);
     match digits::byte_at(answer, 0) {
@@ -135,7 +136,7 @@ pub fn refused(answer: &[u8]) -> bool
 
 // The head of a transfer's answer from place `at` on: its name, the number, the words processed.
 pub fn put_head(out: &mut [u8], at: usize, name: usize, number: u16, processed: usize)
-    ensures { left out ≡ sets (lent out) at (head_of name number processed) }
+    ensures { out.new ≡ sets out.old at (head_of name number processed) }
 {
     if out.len() <= at {
         return;
@@ -147,7 +148,7 @@ pub fn put_head(out: &mut [u8], at: usize, name: usize, number: u16, processed: 
 
 // The frame that a line is: its first byte names it.
 pub fn parse(s: &[u8]) -> Frame
-    ensures { result ≡ frame_of (lent s) }
+    ensures { result ≡ frame_of s.now }
 {
     if !digits::all_digits(s) {
         return Frame::Bad;
@@ -187,7 +188,7 @@ fn end_line(
     at: usize,
 ) -> Answered
     requires { at < 2 ^ 63 }
-    ensures ends { Ends (lent waves) (flow (before card settings tables) (lent line) held []) at out settings tables line result }
+    ensures ends { Ends waves.now (flow (before card settings.old tables.old) line.now held []) at out.old out.new settings.new tables.new line.now result }
     ensures end_bound { result.end ≤ at + 265 }
 {
     let n = word::least(held, line.len());
@@ -204,7 +205,7 @@ fn end_line(
 // A line goes on: the byte is kept while there is room, and how many are held then.
 fn keep(line: &mut [u8; 263], held: usize, b: u8) -> usize
     requires { held ≤ 263 }
-    ensures { Keeps (lent line) held b (left line) result }
+    ensures { Keeps line.old held b line.new result }
 {
     if held < 263 {
         digits::put(line, held, b);
@@ -227,7 +228,7 @@ fn answer(
     at: usize,
 ) -> Answered
     requires { at < 2 ^ 63 }
-    ensures { Gives (step_of (lent waves) (before card settings tables) (lent line)) at out settings tables result }
+    ensures { Gives (step_of waves.now (before card settings.old tables.old) line.now) at out.old out.new settings.new tables.new result }
 {
     match parse(line) {
         Frame::Write { start, count } => answer_write(
@@ -258,7 +259,7 @@ fn answer_write(
     at: usize,
 ) -> Answered
     requires { (at < 2 ^ 63) × (count ≤ 64) }
-    ensures { Gives (wrote (write_of (before card settings tables) start count (words_of count (lent line)))) at out settings tables result }
+    ensures { Gives (wrote (write_of (before card settings.old tables.old) start count (words_of count line.now))) at out.old out.new settings.new tables.new result }
 {
     let mut buffer = [0u16; 64];
     digits::words(line, 6, count as u16, &mut buffer);
@@ -289,7 +290,7 @@ fn answer_read(
     at: usize,
 ) -> usize
     requires { (at < 2 ^ 63) × (count ≤ 64) }
-    ensures { Puts (read_text (read_of (lent settings) card start count (replicate 64 0))) at (lent out) (left out) result }
+    ensures { Puts (read_text (read_of settings.now card start count (replicate 64 0))) at out.old out.new result }
 {
     let mut buffer = [0u16; 64];
     let reply = transfer::read(settings, card, start, count, &mut buffer);
@@ -312,7 +313,7 @@ fn answer_ticks(
     at: usize,
 ) -> Answered
     requires { at < 2 ^ 63 }
-    ensures { Gives (on_frame (lent waves) (before card settings tables) (lent line) (Frame.Ticks n)) at out settings tables result }
+    ensures { Gives (on_frame waves.now (before card settings.now tables.old) line.now (Frame.Ticks n)) at out.old out.new settings.new tables.new result }
 {
     let k = card::run(settings, tables, waves, card, n as u32);
     let end = put_outputs(k, 0x83, out, at);
@@ -331,7 +332,7 @@ fn answer_event(
     at: usize,
 ) -> Answered
     requires { at < 2 ^ 63 }
-    ensures { Gives (on_frame (lent waves) (before card settings tables) (lent line) (Frame.Event e)) at out settings tables result }
+    ensures { Gives (on_frame waves.now (before card settings.now tables.old) line.now (Frame.Event e)) at out.old out.new settings.new tables.new result }
 {
     let k = card::tick(settings, tables, waves, card, e);
     let end = put_outputs(k, 0x84, out, at);
@@ -341,7 +342,7 @@ fn answer_event(
 // FF: the line is no frame.
 fn answer_bad(card: Card, out: &mut [u8], at: usize) -> Answered
     requires { at < 2 ^ 63 }
-    ensures { (result.card ≡ card) × Puts (hex2 0xFF) at (lent out) (left out) result.end }
+    ensures { (result.card ≡ card) × Puts (hex2 0xFF) at out.old out.new result.end }
 {
     digits::put2(out, at, 0xFF);
     Answered {
@@ -353,7 +354,7 @@ fn answer_bad(card: Card, out: &mut [u8], at: usize) -> Answered
 // The name and the four outputs.
 fn put_outputs(card: Card, name: usize, out: &mut [u8], at: usize) -> usize
     requires { at < 2 ^ 63 }
-    ensures { Puts (outputs_text name card) at (lent out) (left out) result }
+    ensures { Puts (outputs_text name card) at out.old out.new result }
 {
     digits::put2(out, at, name);
     let o = outputs(card);
@@ -385,7 +386,7 @@ fn output(card: Card, c: usize) -> u16
 
 // 01, a start, 0 to 64 words.
 fn write_frame(s: &[u8]) -> Frame
-    ensures { result ≡ write_frame (lent s) }
+    ensures { result ≡ write_frame s.now }
 {
     let n = s.len();
     if n < 6 {
@@ -406,7 +407,7 @@ fn write_frame(s: &[u8]) -> Frame
 
 // 02, a start, a count up to 64.
 fn read_frame(s: &[u8]) -> Frame
-    ensures { result ≡ read_frame (lent s) }
+    ensures { result ≡ read_frame s.now }
 {
     let n = s.len();
     if n != 10 {
@@ -424,7 +425,7 @@ fn read_frame(s: &[u8]) -> Frame
 
 // 03, a number of ticks.
 fn ticks_frame(s: &[u8]) -> Frame
-    ensures { result ≡ ticks_frame (lent s) }
+    ensures { result ≡ ticks_frame s.now }
 {
     let n = s.len();
     if n != 6 {
@@ -435,7 +436,7 @@ fn ticks_frame(s: &[u8]) -> Frame
 
 // 04, an event.
 fn event_frame(s: &[u8]) -> Frame
-    ensures { result ≡ event_frame (lent s) }
+    ensures { result ≡ event_frame s.now }
 {
     let n = s.len();
     if n != 4 {

@@ -1,4 +1,6 @@
 // The map of words: what the word at an address is, and the values that it accepts.
+#![tactic(auto)]
+
 ghost use Rattle.std.specs.Prelude.{◌≡◌, ◌/◌};
 ghost use Rattle.map.specs.Map.{register_of, accepted_at, channel_rows, card_rows, scan, named_in, point};
 ghost use Rattle.map.specs.Register.{allowed, allowed_setting, is_mode};

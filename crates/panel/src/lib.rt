@@ -1,6 +1,7 @@
 // What a word shows on the panel, and the points of a ramp as they are plotted.
+#![tactic(auto)]
+
 ghost use Rattle.std.specs.Prelude.{◌≡◌, ◌≤◌};
-ghost use Rattle.word.specs.Lent.{lent};
 ghost use Rattle.word.specs.Word.{signed_of};
 ghost use Rattle.panel.specs.Shown.{volts_of, factor_of, Times, shown_setting, shown_status, shown, reading_of};
 ghost use Rattle.panel.specs.Plots.{plot_of, plot_from, PlotExact, PointExact};
@@ -56,7 +57,7 @@ pub fn factor(word: u16) -> f64
 // A point of a table of a channel, where the lent words have the word of address a at place a.
 // Nothing where the channel, the table or the point is not there, or the ramp ends before it.
 pub fn plot_point(words: &[u16; 16960], channel: usize, table: usize, point: usize) -> Plot
-    ensures { (result ≡ plot_of (lent words) channel table point) × PlotExact (lent words) channel table point result }
+    ensures { (result ≡ plot_of words.now channel table point) × PlotExact words.now channel table point result }
 {
     if 4 <= channel {
         return Plot::Nothing;
@@ -73,7 +74,7 @@ pub fn plot_point(words: &[u16; 16960], channel: usize, table: usize, point: usi
 // The same in the table whose first word is at `first`.
 fn plot_from(words: &[u16], first: usize, point: usize) -> Plot
     requires { (first ≤ 0x10000) × (point ≤ 63) }
-    ensures { (result ≡ plot_from (lent words) first point) × PointExact (lent words) first point result }
+    ensures { (result ≡ plot_from words.now first point) × PointExact words.now first point result }
 {
     let mut micros: u32 = 0;
     let mut n: usize = 0;

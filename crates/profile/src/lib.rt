@@ -1,6 +1,7 @@
 // The lamp benches' profile: no overflow of a ramp sum at any level. A check goes over the settings.
+#![tactic(auto)]
+
 ghost use Rattle.std.specs.Prelude.{◌≡◌};
-ghost use Rattle.word.specs.Lent.{lent};
 ghost use Rattle.sum.specs.declared.Edition.{Edition};
 ghost use Rattle.sum.specs.declared.Edition.TheVariants.{First};
 ghost use Rattle.sum.specs.Sample.{sample_of};
@@ -38,7 +39,7 @@ pub enum Out {
 // The verdict on a bench, whichever edition its card is: the first channel, then level, that breaks the profile, if any. It is on ramp sums
 // alone: a sine's product that does not fit is none, and a ramp that was loaded before, under other settings, is not looked at.
 pub fn check(settings: &[u16; 16960]) -> Verdict
-    ensures { (edition : Edition) → result ≡ verdict_of edition (lent settings) }
+    ensures { (edition : Edition) → result ≡ verdict_of edition settings.now }
 {
     let mut c: u16 = 0;
     while c < 4 {
@@ -54,7 +55,7 @@ pub fn check(settings: &[u16; 16960]) -> Verdict
 
 // The verdict on channel c: its first level that breaks the profile, if any.
 fn channel_verdict(settings: &[u16], c: u16) -> Verdict
-    ensures { (edition : Edition) → result ≡ channel_verdict edition (lent settings) c }
+    ensures { (edition : Edition) → result ≡ channel_verdict edition settings.now c }
 {
     let mut level: u16 = 0;
     while level < 32 {
@@ -70,7 +71,7 @@ fn channel_verdict(settings: &[u16], c: u16) -> Verdict
 
 // The verdict on channel c's ramp for a level.
 fn level_verdict(settings: &[u16], c: u16, level: u16) -> Verdict
-    ensures { (edition : Edition) → result ≡ level_verdict edition (lent settings) c level }
+    ensures { (edition : Edition) → result ≡ level_verdict edition settings.now c level }
 {
     let loaded = channel::settings_for(settings, c, level);
     match first_out(settings, c, loaded) {
@@ -101,7 +102,7 @@ fn own_sum(loaded: Loaded, v: u16) -> Sum
 
 // The first point up to the ramp's end whose sum is out of range, if any.
 fn first_out(settings: &[u16], c: u16, loaded: Loaded) -> Out
-    ensures { result ≡ out_from (lent settings) (table_at c loaded.table) loaded 64 0 }
+    ensures { result ≡ out_from settings.now (table_at c loaded.table) loaded 64 0 }
 {
     let first = (c as usize) * 0x1000 + 128 * (loaded.table as usize);
     let mut n: u16 = 0;

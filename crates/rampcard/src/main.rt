@@ -1,6 +1,7 @@
 // The line program: frames from standard input, their answers to standard output, on a reset card of edition 1.
+#![tactic(auto)]
+
 ghost use Rattle.std.specs.Prelude.{◌≤◌, length};
-ghost use Rattle.word.specs.Lent.{lent, left};
 ghost use Rattle.line.specs.Session.{found};
 ghost use Rattle.rampcard.specs.Served.{Served};
 
@@ -114,7 +115,7 @@ fn serve_chunk(
     chunk: &[u8],
 ) -> Turn
     requires { 265 ≤ length out.old }
-    ensures { Served (lent waves) (found card settings tables line held) (lent chunk) (left settings) (left tables) (left line) result }
+    ensures { Served waves.now (found card settings.old tables.old line.old held) chunk.now settings.new tables.new line.new result }
 {
     let mut k = card;
     let mut h = held;

@@ -1,4 +1,6 @@
 // The regions of the map: one constant table, and the region that an address belongs to.
+#![tactic(auto)]
+
 ghost use Rattle.std.specs.Prelude.{◌≡◌, ◌+◌, ◌<◌};
 ghost use Rattle.map.specs.Map.{region_of, scan, found_in};
 ghost use Rattle.regions.specs.Once.{once, base_of, raised_to};

@@ -1,5 +1,7 @@
 // The program save: plays lines from standard input on a reset card of edition 1, then writes its settings as lines to standard output. A line
 // that is not answered 0 is told on standard error, and the rest goes on.
+#![tactic(auto)]
+
 use card::Card;
 use libc::{STDERR_FILENO, STDIN_FILENO, STDOUT_FILENO};
 

@@ -1,7 +1,6 @@
 -- Document 02, Four: 'Marta wants a bench's settings as a file she can send to another. Write them as 01 frames of the line program'.
 use Rattle.std.specs.Prelude.{◌≡◌, cond, List, [], ◌∷◌, ◌++◌, map, ℕ, zero, suc, ◌+◌, ◌-◌, ◌*◌, ◌/◌, min, ltb, length, get_or}
 use Rattle.std.proofs.lemmas.List.Edits.{sets}
-use Rattle.word.specs.Lent.{Lent, lent, left}
 use Rattle.digits.specs.Digits.{hex2, hex4, hex_all}
 use Rattle.map.specs.Map.{Row, regions}
 use Rattle.map.specs.Settings.{is_setting, is_fixed}
@@ -103,12 +102,12 @@ abbrev pub Laid : List ℕ → ℕ → List ℕ → List ℕ → ℕ → Type 0
 Laid x at before after to = (after ≡ sets before at x) × (to ≡ at + length x)
 
 -- the same of a call: the buffer as it is lent and left
-abbrev pub Lays : List ℕ → ℕ → Lent → ℕ → Type 0
-Lays x at out to = Laid x at (lent out) (left out) to
+abbrev pub Lays : List ℕ → ℕ → List ℕ → List ℕ → ℕ → Type 0
+Lays x at out out' to = Laid x at out out' to
 
 -- the answer handed back, and the buffer left
-abbrev pub Saves : Kept → Saved → Lent → Type 0
-Saves x r out = (r ≡ x.answer) × (left out ≡ x.buffer)
+abbrev pub Saves : Kept → Saved → List ℕ → Type 0
+Saves x r out = (r ≡ x.answer) × (out ≡ x.buffer)
 
 -- document 02's number of each answer, and how many bytes were written
 abbrev pub saved_number : Saved → ℕ

@@ -1,7 +1,8 @@
 // A bench saved as lines: the settings as 01 frames of the line program, written into a lent buffer.
+#![tactic(auto)]
+
 ghost use Rattle.std.specs.Prelude.{◌≡◌, ◌+◌, ◌*◌, ◌^◌, ◌≤◌, ◌<◌, length, get_or};
 ghost use Rattle.std.proofs.lemmas.List.Edits.{sets};
-ghost use Rattle.word.specs.Lent.{lent, left};
 ghost use Rattle.digits.specs.Digits.{hex_all};
 ghost use Rattle.saved.specs.Laws.{bytes_in};
 ghost use Rattle.saved.specs.Saved.{span, spans, pieces, cut, words_at, line_text, text_of, Lays, save_of, Saves, saved_number, bytes_of};
@@ -22,7 +23,7 @@ pub struct Span {
 
 // The settings as lines, at the front of the buffer; one that is too short stays as it is.
 pub fn save(settings: &[u16; 16960], out: &mut [u8]) -> Saved
-    ensures { Saves (save_of (lent settings) (lent out)) result out }
+    ensures { Saves (save_of settings.now out.old) result out.new }
 {
     if out.len() < LENGTH {
         return Saved::TooShort;
@@ -81,7 +82,7 @@ fn span_at(k: usize) -> Span
 // The frames of a span from place `at` on, 64 words each but the last; and where they end.
 fn put_span(settings: &[u16], x: Span, out: &mut [u8], at: usize) -> usize
     requires { (x.first + x.count ≤ length settings.now) × (at + bytes_in (cut x 0 (pieces x)) ≤ length out.old) × (at < 2 ^ 31) × (x.count ≤ 1920) }
-    ensures lays { Lays (text_of (lent settings) (cut x 0 (pieces x))) at out result }
+    ensures lays { Lays (text_of settings.now (cut x 0 (pieces x))) at out.old out.new result }
     ensures upper_bound { result ≤ at + 7890 }
 {
     let first = x.first;
@@ -100,7 +101,7 @@ fn put_span(settings: &[u16], x: Span, out: &mut [u8], at: usize) -> usize
 // A frame of n words and its LF, from place `at` on; and where it ends.
 fn put_frame(settings: &[u16], first: usize, n: usize, out: &mut [u8], at: usize) -> usize
     requires { (first + n ≤ length settings.now) × (at + 7 + 4 * n ≤ length out.old) × (at < 2 ^ 32) × (n ≤ 64) }
-    ensures { Lays (line_text (lent settings) (span first n)) at out result }
+    ensures { Lays (line_text settings.now (span first n)) at out.old out.new result }
 {
     digits::put2(out, at, 1);
     digits::put4(out, at + 2, first);
@@ -113,7 +114,7 @@ fn put_frame(settings: &[u16], first: usize, n: usize, out: &mut [u8], at: usize
 // n words of the settings from an address on, four digits each, from place `at` on. There is room for them, so no store asks for it.
 fn put_words(settings: &[u16], first: usize, n: usize, out: &mut [u8], at: usize)
     requires { (first + n ≤ length settings.now) × (at + 4 * n ≤ length out.old) }
-    ensures { left out ≡ sets (lent out) at (hex_all (words_at (lent settings) first n)) }
+    ensures { out.new ≡ sets out.old at (hex_all (words_at settings.now first n)) }
 {
     let table = DIGITS;
     let mut i: usize = 0;

@@ -1,5 +1,7 @@
 // One sample of a ramp: floor(S·f/256) + offset, with f an exact fraction, or in the second edition f cut to a whole number; and the
 // product of a sine.
+#![tactic(auto)]
+
 ghost use Rattle.std.specs.Prelude.{◌≡◌, ◌*◌, ◌<◌, ◌≤◌, ◌^◌, nat_abs, ◌+ℤ◌, ◌*ℤ◌};
 ghost use Rattle.word.specs.Word.{signed_of, word_of};
 ghost use Rattle.sum.specs.declared.Side.TheVariants.{Within};

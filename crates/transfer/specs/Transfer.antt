@@ -1,6 +1,5 @@
 -- 'Transfers and their numbers'.
 use Rattle.std.specs.Prelude.{◌≡◌, Bool, true, false, ◌||◌, cond, List, [], ◌∷◌, ℕ, zero, suc, ◌+◌, ltb, eqb, set, length, take}
-use Rattle.word.specs.Lent.{Lent, left}
 use Rattle.map.specs.declared.Access.{Access}
 use Rattle.map.specs.declared.Access.TheVariants as A
 use Rattle.map.specs.declared.Found.{Found}
@@ -106,8 +105,8 @@ write_of st start count ws = cond (bad_count count (length ws)) (out st BadCount
 abbrev pub outcome_of : Out → Outcome
 outcome_of o = record { card = o.state.card; answer = o.answer }
 
-abbrev pub Ends : Out → Outcome → Lent → Lent → Type 0
-Ends o r settings tables = (r ≡ outcome_of o) × (left settings ≡ o.state.settings) × (left tables ≡ o.state.tables)
+abbrev pub Ends : Out → Outcome → List ℕ → List ℕ → Type 0
+Ends o r settings tables = (r ≡ outcome_of o) × (settings ≡ o.state.settings) × (tables ≡ o.state.tables)
 
 -- what a write from `start` on hands back by value
 abbrev pub written : ℕ → Out → Written
@@ -142,8 +141,8 @@ unfoldable pub read_of : List ℕ → Card → ℕ → ℕ → List ℕ → Fill
 read_of s k start count ws = cond (bad_count count (length ws)) (filled ws BadCount) (read_in s k start count ws (region_of start))
 
 -- the answer that the words come to, and the words left in the slice
-abbrev pub Fills : Filled → Answer → Lent → Type 0
-Fills f w words = (w ≡ f.answer) × (left words ≡ f.words)
+abbrev pub Fills : Filled → Answer → List ℕ → Type 0
+Fills f w words = (w ≡ f.answer) × (words ≡ f.words)
 
 -- a read of `count` words from `start` on, into the first of ws: what it hands back, and the words that it leaves
 abbrev pub Reads : List ℕ → Card → ℕ → ℕ → List ℕ → Reply → List ℕ → Type 0

@@ -1,6 +1,5 @@
 -- One word of a transfer: whether it may be written, what it does, and what is read.
 use Rattle.std.specs.Prelude.{◌≡◌, Bool, true, false, not, ◌&&◌, cond, List, ℕ, ◌<◌, eqb, set}
-use Rattle.word.specs.Lent.{Lent, left}
 use Rattle.map.specs.declared.Field.{Field}
 use Rattle.map.specs.declared.Field.TheVariants as F
 use Rattle.map.specs.declared.Register.{Register}
@@ -125,9 +124,9 @@ unfoldable pub write_word : State → ℕ → ℕ → One
 write_word st a v = on_verdict (judge_of st.settings st.card (register_of a) v) st a v
 
 -- the card and the verdict handed back, the settings and the tables left
-abbrev pub Steps : One → Stepped → Lent → Lent → Type 0
+abbrev pub Steps : One → Stepped → List ℕ → List ℕ → Type 0
 Steps o r settings tables =
-    (r.card ≡ o.state.card) × (r.verdict ≡ o.verdict) × (left settings ≡ o.state.settings) × (left tables ≡ o.state.tables)
+    (r.card ≡ o.state.card) × (r.verdict ≡ o.verdict) × (settings ≡ o.state.settings) × (tables ≡ o.state.tables)
 
 -- ---- what is read
 

@@ -1,6 +1,7 @@
 // Transfers: words written to the card and read from it, by address, with the paper's numbers.
+#![tactic(auto)]
+
 ghost use Rattle.std.specs.Prelude.{◌≡◌, ◌+◌, ◌≤◌, ◌<◌, take, length};
-ghost use Rattle.word.specs.Lent.{lent, left};
 ghost use Rattle.map.specs.Settings.{is_fixed};
 ghost use Rattle.channel.specs.Channel.{output_to, overflow_cleared};
 ghost use Rattle.card.specs.Card.{before, LeavesWhole};
@@ -89,7 +90,7 @@ pub fn write(
     count: usize,
     words: &[u16],
 ) -> Written
-    ensures { Wrote (before card settings tables) start count (lent words) result (left settings) (left tables) }
+    ensures { Wrote (before card settings.old tables.old) start count words.now result settings.new tables.new }
 {
     let w = write_from(settings, tables, card, start, count, words);
     let k = w.card;
@@ -108,7 +109,7 @@ pub fn read(
     count: usize,
     words: &mut [u16],
 ) -> Reply
-    ensures { Reads (lent settings) card start count (lent words) result (left words) }
+    ensures { Reads settings.now card start count words.old result words.new }
 {
     replied(start, read_from(settings, card, start, count, words))
 }
@@ -173,7 +174,7 @@ fn write_from(
     count: usize,
     words: &[u16],
 ) -> Outcome
-    ensures { Ends (write_of (before card settings tables) start count (lent words)) result settings tables }
+    ensures { Ends (write_of (before card settings.old tables.old) start count words.now) result settings.new tables.new }
 {
     if bad_count(count, words.len()) {
         return ended(card, Answer::BadCount);
@@ -199,7 +200,7 @@ fn read_from(
     count: usize,
     words: &mut [u16],
 ) -> Answer
-    ensures { Fills (read_of (lent settings) card start count (lent words)) result words }
+    ensures { Fills (read_of settings.now card start count words.old) result words.new }
 {
     if bad_count(count, words.len()) {
         return Answer::BadCount;
@@ -270,7 +271,7 @@ fn write_words(
     count: usize,
 ) -> Outcome
     requires { (count ≤ length words.now) × (count ≤ 16381) }
-    ensures { Ends (write_words (before card settings tables) start last 0 (take count (lent words))) result settings tables }
+    ensures { Ends (write_words (before card settings.old tables.old) start last 0 (take count words.now)) result settings.new tables.new }
 {
     let mut k = card;
     let mut i: usize = 0;
@@ -303,7 +304,7 @@ fn read_words(
     count: usize,
 ) -> Answer
     requires { count ≤ 16381 }
-    ensures { Fills (read_words (lent settings) card start last 0 count (lent words)) result words }
+    ensures { Fills (read_words settings.now card start last 0 count words.old) result words.new }
 {
     let mut i: usize = 0;
     while i < count {
@@ -325,7 +326,7 @@ fn write_word(
     address: u16,
     value: u16,
 ) -> Stepped
-    ensures { Steps (write_word (before card settings tables) address value) result settings tables }
+    ensures { Steps (write_word (before card settings.old tables.old) address value) result settings.new tables.new }
 {
     let register = map::register_at(address);
     let verdict = judge(settings, card, register, value);
@@ -346,7 +347,7 @@ fn write_word(
 
 // Whether a word may be written, in the paper's order.
 fn judge(settings: &[u16; 16960], card: Card, register: Register, value: u16) -> Verdict
-    ensures { result ≡ judge_of (lent settings) card register value }
+    ensures { result ≡ judge_of settings.now card register value }
 {
     if is_fixed(register) {
         return Verdict::Refused(Why::Fixed);
@@ -374,7 +375,7 @@ fn is_fixed(register: Register) -> bool
 
 // The event belongs to another level.
 fn is_held(settings: &[u16; 16960], register: Register, value: u16) -> bool
-    ensures { result ≡ held_at (lent settings) register value }
+    ensures { result ≡ held_at settings.now register value }
 {
     match register {
         Register::Slot(level) => held_elsewhere(settings, level, value),
@@ -383,7 +384,7 @@ fn is_held(settings: &[u16; 16960], register: Register, value: u16) -> bool
 }
 
 fn held_elsewhere(settings: &[u16; 16960], level: usize, value: u16) -> bool
-    ensures { result ≡ held_at (lent settings) (Register.Slot level) value }
+    ensures { result ≡ held_at settings.now (Register.Slot level) value }
 {
     if value == 0xFE {
         return false;
@@ -434,7 +435,7 @@ fn perform(
     effect: Effect,
 ) -> Card
     requires { Fits address effect }
-    ensures { LeavesWhole (perform_of (before card settings tables) address effect) result settings tables }
+    ensures { LeavesWhole (perform_of (before card settings.old tables.old) address effect) result settings.new tables.new }
 {
     match effect {
         Effect::Keep(v) => {
@@ -507,7 +508,7 @@ fn overflow_cleared(ch: Channel) -> Channel
 
 // The word that is read at an address.
 fn read_word(settings: &[u16; 16960], card: Card, address: u16) -> u16
-    ensures { result ≡ read_word (lent settings) card address }
+    ensures { result ≡ read_word settings.now card address }
 {
     match map::register_at(address) {
         Register::Setting(_) | Register::Fixed(_) | Register::Slot(_) => {

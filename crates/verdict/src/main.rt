@@ -1,5 +1,7 @@
 // The program verdict: plays a saved bench from standard input on a reset card, and says in words on standard output whether it keeps the
 // profile. Saved again the card gives the same bench; where it does not, no saved bench came in.
+#![tactic(auto)]
+
 use card::Card;
 use libc::{STDERR_FILENO, STDIN_FILENO, STDOUT_FILENO};
 use profile::{Break, Verdict};

@@ -1,21 +1,22 @@
 // The wave of a channel in sine mode: its word at a counter, and the sine of an amplitude.
 // The four wave tables are lent one after the other, 1,024 words a channel; a table holds a quarter of the wave.
+#![tactic(auto)]
+
 ghost use Rattle.std.specs.Prelude.{◌≡◌};
-ghost use Rattle.word.specs.Lent.{lent};
 ghost use Rattle.wave.specs.Sine.{entry, wave_word, sine_of};
 
 use sum::Sum;
 
 // The output in sine mode, or none where the product is out of range.
 pub fn sine(waves: &[u16; 4096], c: u16, counter: u16, amplitude: u16) -> Sum
-    ensures { result ≡ sine_of (lent waves) c counter amplitude }
+    ensures { result ≡ sine_of waves.now c counter amplitude }
 {
     sum::product(amplitude, wave_word(waves, c, counter))
 }
 
 // The word of channel c's wave at a counter: bit 15 negates it.
 fn wave_word(waves: &[u16], c: u16, counter: u16) -> i32
-    ensures { result ≡ wave_word (lent waves) c counter }
+    ensures { result ≡ wave_word waves.now c counter }
 {
     let at = 1024 * (c as usize) + entry_of(counter) as usize;
     let v = word::signed(word::get(waves, at));

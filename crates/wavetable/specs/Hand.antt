@@ -2,7 +2,6 @@
 use Rattle.std.specs.Prelude.{◌≡◌, Bool, not, ◌&&◌, ◌||◌, cond, List, ℕ, ltb, eqb, pos, neg_ℤ, length}
 use Rattle.std.specs.Int.Signed.{lt_z}
 use Rattle.word.specs.Word.{signed_of}
-use Rattle.word.specs.Lent.{Lent, left}
 use Rattle.word.specs.Copy.{copied}
 use Rattle.word.specs.Every.{every}
 use Rattle.wave.specs.Sine.{entries, wave_of}
@@ -36,8 +35,8 @@ unfoldable pub hand_of : Card → List ℕ → ℕ → List ℕ → Handed
 hand_of k w c ws = cond (bad_table c ws) (handed w Bad) (cond (runs_of (channel_of k c)) (handed w Running) (handed (copied entries ws 0 w (wave_of c)) Taken))
 
 -- the answer handed back, and the wave tables left
-abbrev pub Hands : Handed → Reply → Lent → Type 0
-Hands x r waves = (r ≡ x.reply) × (left waves ≡ x.waves)
+abbrev pub Hands : Handed → Reply → List ℕ → Type 0
+Hands x r waves = (r ≡ x.reply) × (waves ≡ x.waves)
 
 -- document 02's number of each answer
 abbrev pub reply_number : Reply → ℕ

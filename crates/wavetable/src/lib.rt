@@ -1,6 +1,7 @@
 // The wave table of a channel, handed in whole.
+#![tactic(auto)]
+
 ghost use Rattle.std.specs.Prelude.{◌≡◌};
-ghost use Rattle.word.specs.Lent.{lent};
 ghost use Rattle.wavetable.specs.Hand.{in_wave, all_in_wave, bad_table, hand_of, Hands, reply_number};
 
 use card::Card;
@@ -15,7 +16,7 @@ pub enum Reply {
 
 // Hands in the wave table of channel c, which neither runs nor free-runs; a refusal changes nothing.
 pub fn hand_in(waves: &mut [u16; 4096], card: Card, c: u16, words: &[u16]) -> Reply
-    ensures { Hands (hand_of card (lent waves) c (lent words)) result waves }
+    ensures { Hands (hand_of card waves.old c words.now) result waves.new }
 {
     if bad_table(c, words) {
         return Reply::Bad;
@@ -40,7 +41,7 @@ pub fn number(reply: Reply) -> u16
 
 // There is no such channel, the length is wrong, or a word is out of range.
 fn bad_table(c: u16, words: &[u16]) -> bool
-    ensures { result ≡ bad_table c (lent words) }
+    ensures { result ≡ bad_table c words.now }
 {
     if 3 < c {
         return true;
@@ -53,7 +54,7 @@ fn bad_table(c: u16, words: &[u16]) -> bool
 
 // Every word is in range.
 fn all_in_wave(words: &[u16]) -> bool
-    ensures { result ≡ all_in_wave (lent words) }
+    ensures { result ≡ all_in_wave words.now }
 {
     let mut i: usize = 0;
     while i < words.len() {

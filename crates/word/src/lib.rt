@@ -1,8 +1,9 @@
 // Words of 16 bits: as signed numbers, as counters, as times, and lent by the slice.
+#![tactic(auto)]
+
 ghost use Rattle.std.specs.Prelude.{◌≡◌, ◌≤◌, min, slice_index, slice_set};
 ghost use Rattle.word.specs.Word.{signed_of, grown, lasting};
 ghost use Rattle.word.specs.Table.{is_end};
-ghost use Rattle.word.specs.Lent.{lent, left};
 ghost use Rattle.word.specs.Copy.{copied};
 
 // A word as a signed number, from -32768 to 32767.
@@ -59,14 +60,14 @@ pub fn ends(point: usize, step: Samples) -> bool
 
 // The word at a place of lent words; past their end it is 0.
 pub fn get(words: &[u16], at: usize) -> u16
-    ensures { result ≡ slice_index (lent words) at }
+    ensures { result ≡ slice_index words.now at }
 {
     if at < words.len() { words[at] } else { 0 }
 }
 
 // Stores a word at a place of lent words; past their end nothing is stored.
 pub fn put(words: &mut [u16], at: usize, word: u16)
-    ensures { left words ≡ slice_set (lent words) at word }
+    ensures { words.new ≡ slice_set words.old at word }
 {
     if at < words.len() {
         words[at] = word;
@@ -75,7 +76,7 @@ pub fn put(words: &mut [u16], at: usize, word: u16)
 
 // Copies n words from a place of one list on to a place of another and on; past its end nothing is stored.
 pub fn copy(words: &[u16], from: u32, into: &mut [u16], to: u32, n: u32)
-    ensures { left into ≡ copied n (lent words) from (lent into) to }
+    ensures { into.new ≡ copied n words.now from into.old to }
 {
     let source = from as usize;
     let target = to as usize;
