@@ -32,6 +32,7 @@ pub struct Card {
 }
 
 // A fresh card of an edition: settings, loaded tables, wave tables and card as after a reset.
+#[tactic(auto, unfolding(crate::specs::Reset::tables_reset, crate::specs::Reset::waves_reset))]
 pub fn fresh(
     settings: &mut [u16; 16960],
     tables: &mut [u16; 512],
@@ -60,6 +61,7 @@ pub fn reset(
 }
 
 // One tick: every channel moves on by a microsecond, then the event is taken. 0xFE is no event.
+#[tactic(auto, unfolding(crate::specs::Tick::advanced))]
 pub fn tick(
     settings: &[u16; 16960],
     tables: &mut [u16; 512],
@@ -74,6 +76,7 @@ pub fn tick(
 }
 
 // n ticks with no event.
+#[tactic(auto, unfolding(crate::specs::Tick::advanced))]
 pub fn run(
     settings: &[u16; 16960],
     tables: &mut [u16; 512],
@@ -93,6 +96,7 @@ pub fn run(
 }
 
 // An accepted trigger of a level: its count, every channel's countdown, and the level and event, which show once a channel loads.
+#[tactic(auto, unfolding(crate::specs::Trigger::trigger_of))]
 pub fn trigger(
     settings: &[u16; 16960],
     tables: &mut [u16; 512],
@@ -147,6 +151,7 @@ pub fn with_count(card: Card, level: usize, n: u16) -> Card
 }
 
 // Every channel one microsecond on: all ramp values move, then the outputs are made; a load shows the pending trigger.
+#[tactic(auto, unfolding(crate::specs::Tick::advanced, crate::specs::Tick::second_pass))]
 fn advance(
     settings: &[u16; 16960],
     tables: &mut [u16; 512],
@@ -178,6 +183,7 @@ fn advance(
 }
 
 // A channel after the second pass, which has nothing to do where no sample was given: nine times in ten.
+#[tactic(auto, unfolding(channel::specs::Signal::make_of))]
 fn output_made(waves: &[u16; 4096], c: u16, t: Ticked) -> Channel
     ensures { result ≡ sounded waves.now c t.channel t.gave }
 {
@@ -281,6 +287,7 @@ fn count_trigger(card: Card, level: u16) -> Card
 }
 
 // The level of the accepted trigger that an event is, if it is one.
+#[tactic(auto, unfolding(crate::specs::Trigger::accepted_of))]
 fn accepted(settings: &[u16; 16960], event: u16) -> Holder
     ensures { result ≡ accepted_of settings.now event }
 {
@@ -304,6 +311,7 @@ fn receive(settings: &[u16; 16960], tables: &mut [u16; 512], card: Card, event: 
     }
 }
 
+#[tactic(auto, unfolding(crate::specs::Reset::settings_reset))]
 fn reset_settings(settings: &mut [u16; 16960])
     ensures { settings.new ≡ settings_reset settings.old }
 {
@@ -338,6 +346,7 @@ fn no_channel() -> Channel
 }
 
 // The card itself after a reset.
+#[tactic(auto, unfolding(crate::specs::Reset::card_reset))]
 fn reset_card(edition: Edition) -> Card
     ensures { result ≡ card_reset edition }
 {

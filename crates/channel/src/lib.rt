@@ -110,6 +110,7 @@ pub struct Ticked {
 }
 
 // One microsecond of channel c on a card of an edition, first pass: its ramp's value moves.
+#[tactic(auto, unfolding(crate::specs::Channel::move_at))]
 pub fn move_ramp(
     settings: &[u16; 16960],
     tables: &mut [u16; 512],
@@ -129,6 +130,7 @@ pub fn move_ramp(
 }
 
 // Second pass: its output is made of the sample that it gave.
+#[tactic(auto, unfolding(crate::specs::Signal::make_of))]
 pub fn make_output(waves: &[u16; 4096], c: u16, t: Ticked) -> Channel
     ensures { result ≡ sounded waves.now c t.channel t.gave }
 {
@@ -363,6 +365,7 @@ fn count(
 }
 
 // The load for a level: an older ramp or free run is aborted, its output held, and the settings are copied.
+#[tactic(auto, unfolding(crate::specs::Channel::load))]
 fn load_level(settings: &[u16], tables: &mut [u16], c: u16, ch: Channel, level: u16) -> Channel
     ensures { Leaves (load settings.now tables.old c ch level) result tables.new }
 {
@@ -423,6 +426,7 @@ fn word_at(settings: &[u16], c: u16, offset: u16, index: u16) -> u16
 }
 
 // At countdown 0: the ramp starts if the waveform is enabled.
+#[tactic(auto, unfolding(crate::specs::Channel::start))]
 fn start_ramp(settings: &[u16], tables: &[u16], edition: Edition, c: u16, ch: Channel) -> Ticked
     ensures { result ≡ ticked (start edition settings.now tables.now c ch) }
 {
@@ -447,6 +451,7 @@ fn start_ramp(settings: &[u16], tables: &[u16], edition: Edition, c: u16, ch: Ch
 }
 
 // One tick of a ramp.
+#[tactic(auto, unfolding(crate::specs::Ramp::advance))]
 fn step(tables: &[u16], edition: Edition, c: u16, loaded: Loaded, ramp: Ramp, shown: Shown) -> Moved
     ensures { result ≡ advance edition tables.now (first_of c) loaded ramp shown }
 {
@@ -508,6 +513,7 @@ fn unsampled(ramp: Ramp, shown: Shown) -> Moved
 }
 
 // The sample at a place is given; at the end point the ramp rests or free-runs, elsewhere the next sample comes a period later.
+#[tactic(auto, unfolding(crate::specs::Ramp::given))]
 fn sample_given(
     tables: &[u16],
     edition: Edition,
@@ -541,6 +547,7 @@ fn ramp_after(loaded: Loaded, period: Micros, p: Place) -> Ramp
 }
 
 // The end point's sample is given: the ramp is still, or under free run its sine goes on.
+#[tactic(auto, unfolding(crate::specs::Ramp::ended))]
 fn end_of(loaded: Loaded, period: Micros, p: Place) -> Ramp
     ensures { result ≡ ended loaded period.0 p }
 {
@@ -622,6 +629,7 @@ fn free_output(waves: &[u16; 4096], c: u16, ch: Channel) -> Channel
 }
 
 // What a ramp's sample makes: its sine, or in plain mode its sum.
+#[tactic(auto, unfolding(crate::specs::Signal::make_of))]
 fn ramp_signal(
     waves: &[u16; 4096],
     c: u16,
@@ -643,6 +651,7 @@ fn ramp_signal(
 }
 
 // What a free run's sample makes.
+#[tactic(auto, unfolding(crate::specs::Signal::make_of))]
 fn free_signal(waves: &[u16; 4096], c: u16, tone: Tone, amplitude: u16, signal: Signal) -> Signal
     ensures { result ≡ make_of waves.now c Gave.OfFreeRun tone amplitude signal }
 {
@@ -718,6 +727,7 @@ fn is_overflow(sum: Sum) -> bool
 // ---- a sample and its place
 
 // The sample at a place.
+#[tactic(auto, unfolding(crate::specs::Ramp::sample_at))]
 fn sample_at(tables: &[u16], edition: Edition, c: u16, loaded: Loaded, p: Place) -> Sum
     ensures { result ≡ sample_at edition tables.now (first_of c) loaded p }
 {
@@ -750,6 +760,7 @@ fn sample_at(tables: &[u16], edition: Edition, c: u16, loaded: Loaded, p: Place)
 }
 
 // The place of the sample after the one at p.
+#[tactic(auto, unfolding(crate::specs::Ramp::next))]
 fn next_place(tables: &[u16], c: u16, p: Place) -> Place
     ensures { result ≡ next tables.now (first_of c) p }
 {
@@ -765,6 +776,7 @@ fn next_place(tables: &[u16], c: u16, p: Place) -> Place
 }
 
 // The place of the sample at point n.
+#[tactic(auto, unfolding(crate::specs::Ramp::enter))]
 fn point(tables: &[u16], c: u16, n: u16) -> Place
     ensures { result ≡ enter tables.now (first_of c) n }
 {

@@ -22,6 +22,7 @@ pub fn all_digits(s: &[u8]) -> bool
 }
 
 // The two digits from place i on.
+#[tactic(auto, unfolding(crate::specs::Digits::byte_at))]
 pub fn byte_at(s: &[u8], i: usize) -> u16
     ensures { (result ≡ byte_at s.now i) × (result < 256) }
 {
@@ -32,6 +33,7 @@ pub fn byte_at(s: &[u8], i: usize) -> u16
 }
 
 // The four digits from place i on.
+#[tactic(auto, unfolding(crate::specs::Digits::word_at))]
 pub fn word_at(s: &[u8], i: usize) -> u16
     ensures { result ≡ word_at s.now i }
 {
@@ -42,6 +44,7 @@ pub fn word_at(s: &[u8], i: usize) -> u16
 }
 
 // n words of four digits from place `at` on, stored in the first n words.
+#[tactic(auto, unfolding(crate::specs::Digits::words_from))]
 pub fn words(s: &[u8], at: u16, n: u16, words: &mut [u16])
     ensures { words.new ≡ sets words.old 0 (words_from at n s.now) }
 {
@@ -66,6 +69,7 @@ pub fn put(out: &mut [u8], at: usize, b: u8)
 }
 
 // Two digits from place `at` on.
+#[tactic(auto, unfolding(crate::specs::Digits::hex2))]
 pub fn put2(out: &mut [u8], at: usize, x: usize)
     ensures { out.new ≡ sets out.old at (hex2 x) }
 {
@@ -77,6 +81,7 @@ pub fn put2(out: &mut [u8], at: usize, x: usize)
 }
 
 // Four digits.
+#[tactic(auto, unfolding(crate::specs::Digits::hex4))]
 pub fn put4(out: &mut [u8], at: usize, x: usize)
     ensures { out.new ≡ sets out.old at (hex4 x) }
 {
@@ -88,6 +93,7 @@ pub fn put4(out: &mut [u8], at: usize, x: usize)
 }
 
 // The first n words, four digits each; all of them where there are fewer.
+#[tactic(auto, unfolding(crate::specs::Digits::hex_all))]
 pub fn put_words(out: &mut [u8], at: usize, words: &[u16], n: u16)
     ensures { out.new ≡ sets out.old at (hex_all (take n words.now)) }
 {

@@ -50,6 +50,7 @@ pub fn start(settings: &mut [u16; 16960], tables: &mut [u16; 512], waves: &mut [
 }
 
 // Bytes of a chunk, one after the other, as long as `out` has room for one more answer.
+#[tactic(auto, unfolding(crate::specs::Session::feed_of))]
 pub fn feed(
     settings: &mut [u16; 16960],
     tables: &mut [u16; 512],
@@ -135,6 +136,7 @@ pub fn refused(answer: &[u8]) -> bool
 }
 
 // The head of a transfer's answer from place `at` on: its name, the number, the words processed.
+#[tactic(auto, unfolding(crate::specs::Answer::head_of))]
 pub fn put_head(out: &mut [u8], at: usize, name: usize, number: u16, processed: usize)
     ensures { out.new ≡ sets out.old at (head_of name number processed) }
 {
@@ -385,6 +387,7 @@ fn output(card: Card, c: usize) -> u16
 // ---- frames
 
 // 01, a start, 0 to 64 words.
+#[tactic(auto, unfolding(crate::specs::Frame::write_frame))]
 fn write_frame(s: &[u8]) -> Frame
     ensures { result ≡ write_frame s.now }
 {
@@ -406,6 +409,7 @@ fn write_frame(s: &[u8]) -> Frame
 }
 
 // 02, a start, a count up to 64.
+#[tactic(auto, unfolding(crate::specs::Frame::read_frame))]
 fn read_frame(s: &[u8]) -> Frame
     ensures { result ≡ read_frame s.now }
 {
@@ -424,6 +428,7 @@ fn read_frame(s: &[u8]) -> Frame
 }
 
 // 03, a number of ticks.
+#[tactic(auto, unfolding(crate::specs::Frame::ticks_frame))]
 fn ticks_frame(s: &[u8]) -> Frame
     ensures { result ≡ ticks_frame s.now }
 {
@@ -435,6 +440,7 @@ fn ticks_frame(s: &[u8]) -> Frame
 }
 
 // 04, an event.
+#[tactic(auto, unfolding(crate::specs::Frame::event_frame))]
 fn event_frame(s: &[u8]) -> Frame
     ensures { result ≡ event_frame s.now }
 {

@@ -160,6 +160,7 @@ fn table_word(offset: u16) -> Setting
 }
 
 // By the offset from a channel's base.
+#[tactic(auto, unfolding(crate::specs::Map::channel_rows, crate::specs::Map::scan))]
 fn channel_register(channel: usize, offset: u16) -> Register
     ensures { result ≡ named_in (scan channel_rows offset) channel offset }
 {
@@ -193,6 +194,7 @@ fn channel_register(channel: usize, offset: u16) -> Register
 }
 
 // From 0x4000 up.
+#[tactic(auto, unfolding(crate::specs::Map::card_rows, crate::specs::Map::scan))]
 fn card_register(address: u16) -> Register
     ensures { result ≡ named_in (scan card_rows address) (address / 0x1000) address }
 {

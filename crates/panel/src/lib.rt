@@ -56,6 +56,7 @@ pub fn factor(word: u16) -> f64
 
 // A point of a table of a channel, where the lent words have the word of address a at place a.
 // Nothing where the channel, the table or the point is not there, or the ramp ends before it.
+#[tactic(auto, unfolding(crate::specs::Plots::plot_of))]
 pub fn plot_point(words: &[u16; 16960], channel: usize, table: usize, point: usize) -> Plot
     ensures { (result ≡ plot_of words.now channel table point) × PlotExact words.now channel table point result }
 {
@@ -72,6 +73,7 @@ pub fn plot_point(words: &[u16; 16960], channel: usize, table: usize, point: usi
 }
 
 // The same in the table whose first word is at `first`.
+#[tactic(auto, unfolding(word::specs::Table::steps_before, crate::specs::Plots::reached))]
 fn plot_from(words: &[u16], first: usize, point: usize) -> Plot
     requires { (first ≤ 0x10000) × (point ≤ 63) }
     ensures { (result ≡ plot_from words.now first point) × PointExact words.now first point result }

@@ -38,6 +38,7 @@ pub enum Out {
 
 // The verdict on a bench, whichever edition its card is: the first channel, then level, that breaks the profile, if any. It is on ramp sums
 // alone: a sine's product that does not fit is none, and a ramp that was loaded before, under other settings, is not looked at.
+#[tactic(auto, unfolding(crate::specs::Profile::verdict_of))]
 pub fn check(settings: &[u16; 16960]) -> Verdict
     ensures { (edition : Edition) → result ≡ verdict_of edition settings.now }
 {
@@ -54,6 +55,7 @@ pub fn check(settings: &[u16; 16960]) -> Verdict
 }
 
 // The verdict on channel c: its first level that breaks the profile, if any.
+#[tactic(auto, unfolding(crate::specs::Profile::channel_verdict))]
 fn channel_verdict(settings: &[u16], c: u16) -> Verdict
     ensures { (edition : Edition) → result ≡ channel_verdict edition settings.now c }
 {
@@ -101,6 +103,7 @@ fn own_sum(loaded: Loaded, v: u16) -> Sum
 }
 
 // The first point up to the ramp's end whose sum is out of range, if any.
+#[tactic(auto, unfolding(crate::specs::Points::out_from))]
 fn first_out(settings: &[u16], c: u16, loaded: Loaded) -> Out
     ensures { result ≡ out_from settings.now (table_at c loaded.table) loaded 64 0 }
 {

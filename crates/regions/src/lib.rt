@@ -28,6 +28,7 @@ fn base_of(address: u16) -> u16
 
 // The row that holds an offset, raised to a base. The rows are in order: one that does not hold it rules out all before, or all after.
 // The first look is at row 0, the ramp tables, where most words go; from then on it is at the row in the middle.
+#[tactic(auto, unfolding(crate::specs::Once::once, map::specs::Map::channel_rows, map::specs::Map::card_rows))]
 fn find(base: u16, offset: u16) -> Found
     requires { base < 0x4000 }
     ensures { result ≡ raised_to base (found_in (scan once offset)) }

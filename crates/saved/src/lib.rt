@@ -22,6 +22,7 @@ pub struct Span {
 }
 
 // The settings as lines, at the front of the buffer; one that is too short stays as it is.
+#[tactic(auto, unfolding(crate::specs::Saved::text_of, crate::specs::Saved::frames_of, crate::specs::Saved::frames, crate::specs::Saved::saved_text))]
 pub fn save(settings: &[u16; 16960], out: &mut [u8]) -> Saved
     ensures { Saves (save_of settings.now out.old) result out.new }
 {
@@ -58,6 +59,7 @@ pub fn written(saved: Saved) -> usize
 }
 
 // Span k of the 54: thirteen of each channel from its base, then the card's two.
+#[tactic(auto, unfolding(crate::specs::Saved::holding, crate::specs::Saved::fixed_from, map::specs::Map::channel_rows, map::specs::Map::card_rows))]
 fn span_at(k: usize) -> Span
     requires { k < 54 }
     ensures value { result ≡ get_or spans k (span 0 0) }
@@ -80,6 +82,7 @@ fn span_at(k: usize) -> Span
 }
 
 // The frames of a span from place `at` on, 64 words each but the last; and where they end.
+#[tactic(auto, unfolding(crate::specs::Saved::text_of, crate::specs::Saved::cut))]
 fn put_span(settings: &[u16], x: Span, out: &mut [u8], at: usize) -> usize
     requires { (x.first + x.count ≤ length settings.now) × (at + bytes_in (cut x 0 (pieces x)) ≤ length out.old) × (at < 2 ^ 31) × (x.count ≤ 1920) }
     ensures lays { Lays (text_of settings.now (cut x 0 (pieces x))) at out.old out.new result }
@@ -112,6 +115,7 @@ fn put_frame(settings: &[u16], first: usize, n: usize, out: &mut [u8], at: usize
 }
 
 // n words of the settings from an address on, four digits each, from place `at` on. There is room for them, so no store asks for it.
+#[tactic(auto, unfolding(digits::specs::Digits::hex_all, crate::specs::Saved::words_at))]
 fn put_words(settings: &[u16], first: usize, n: usize, out: &mut [u8], at: usize)
     requires { (first + n ≤ length settings.now) × (at + 4 * n ≤ length out.old) }
     ensures { out.new ≡ sets out.old at (hex_all (words_at settings.now first n)) }

@@ -47,6 +47,7 @@ pub fn erase(words: &mut [u16])
 }
 
 // n words from `first` on all become `word`; past the end nothing is stored.
+#[tactic(auto, unfolding(crate::specs::Slots::filled))]
 pub fn fill(words: &mut [u16], first: u16, n: u16, word: u16)
     ensures { words.new ≡ filled n words.old first word }
 {
@@ -60,6 +61,7 @@ pub fn fill(words: &mut [u16], first: u16, n: u16, word: u16)
 }
 
 // The slots one after the other, but for those of the level `but`.
+#[tactic(auto, unfolding(crate::specs::Slots::holder_from))]
 fn search(words: &[u16], event: u16, but: usize) -> Holder
     ensures { (result ≡ holder_from words.now event but 256 0) × InLevels result }
 {

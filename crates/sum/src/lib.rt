@@ -86,6 +86,7 @@ fn scaled(amplitude: u16, word: i32) -> i64
 }
 
 // The side of the range that a sum lies on.
+#[tactic(auto, unfolding(crate::specs::Sample::side_of))]
 pub fn side_of(sum: i64) -> Side
     ensures { result ≡ side_of sum }
 {

@@ -346,6 +346,7 @@ fn write_word(
 }
 
 // Whether a word may be written, in the paper's order.
+#[tactic(auto, unfolding(crate::specs::Word::judge_of))]
 fn judge(settings: &[u16; 16960], card: Card, register: Register, value: u16) -> Verdict
     ensures { result ≡ judge_of settings.now card register value }
 {
@@ -427,6 +428,7 @@ fn effect_of(register: Register, value: u16) -> Effect
 }
 
 // The effect is carried out: the only place where a write changes the card.
+#[tactic(auto, unfolding(card::specs::Trigger::trigger_of))]
 fn perform(
     settings: &mut [u16; 16960],
     tables: &mut [u16; 512],

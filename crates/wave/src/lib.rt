@@ -15,6 +15,7 @@ pub fn sine(waves: &[u16; 4096], c: u16, counter: u16, amplitude: u16) -> Sum
 }
 
 // The word of channel c's wave at a counter: bit 15 negates it.
+#[tactic(auto, unfolding(crate::specs::Sine::wave_word))]
 fn wave_word(waves: &[u16], c: u16, counter: u16) -> i32
     ensures { result ≡ wave_word waves.now c counter }
 {

@@ -15,6 +15,7 @@ pub enum Reply {
 }
 
 // Hands in the wave table of channel c, which neither runs nor free-runs; a refusal changes nothing.
+#[tactic(auto, unfolding(crate::specs::Hand::hand_of))]
 pub fn hand_in(waves: &mut [u16; 4096], card: Card, c: u16, words: &[u16]) -> Reply
     ensures { Hands (hand_of card waves.old c words.now) result waves.new }
 {

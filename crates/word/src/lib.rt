@@ -75,6 +75,7 @@ pub fn put(words: &mut [u16], at: usize, word: u16)
 }
 
 // Copies n words from a place of one list on to a place of another and on; past its end nothing is stored.
+#[tactic(auto, unfolding(crate::specs::Copy::copied))]
 pub fn copy(words: &[u16], from: u32, into: &mut [u16], to: u32, n: u32)
     ensures { into.new ≡ copied n words.now from into.old to }
 {
