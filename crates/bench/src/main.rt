@@ -6,12 +6,21 @@ ghost use Rattle.std.specs.Prelude.{◌+◌, ◌<◌, ◌≤◌, length};
 ghost use Rattle.bench.specs.Room.{longest, last_room, Short};
 
 use card::Card;
-use libc::{STDERR_FILENO, STDIN_FILENO, STDOUT_FILENO};
 use line::Answered;
 use panel::{Plot, Plotted, Reading};
 use profile::Verdict;
+use std::io::{Print, Read};
+use std::rt::{Stderr, Stdin, Stdout};
 use sum::Edition;
 use transfer::Reply;
+
+// Where frames come from, where their answers go, and where a word is said of what failed.
+#[derive(Clone, Copy)]
+struct Streams {
+    frames: Stdin,
+    answers: Stdout,
+    words: Stderr,
+}
 
 // After a chunk: the card, how many bytes of the open line are held, and whether to go on.
 #[derive(Drop)]
@@ -22,14 +31,20 @@ struct Turn {
 }
 
 // The lent words and buffers, and the session on them. 16,395 bytes decide a line, being one more than the longest frame has.
-fn main() {
+fn main(rt: HostRuntime) {
     let mut settings = [0u16; 16960];
     let mut tables = [0u16; 512];
     let mut waves = [0u16; 4096];
     let mut line = [0u8; 16395];
-    let mut chunk = io::large_buffer();
-    let mut out = io::large_buffer();
+    let mut chunk = [0u8; 65536];
+    let mut out = [0u8; 65536];
+    let streams = Streams {
+        frames: rt.stdin(),
+        answers: rt.stdout(),
+        words: rt.stderr(),
+    };
     serve(
+        streams,
         &mut settings,
         &mut tables,
         &mut waves,
@@ -42,6 +57,7 @@ fn main() {
 // The session. Its turns are counted down from a number that no run uses up, since a proved loop has to end. A failed read is tried
 // again, a hundred times in all.
 fn serve(
+    streams: Streams,
     settings: &mut [u16; 16960],
     tables: &mut [u16; 512],
     waves: &mut [u16; 4096],
@@ -52,22 +68,33 @@ fn serve(
     let mut k = line::start(settings, tables, waves);
     let mut held: usize = 0;
     let mut failed: u32 = 0;
-    let mut turns = u64::MAX;
-    while 0 < turns {
-        turns = turns - 1;
-        let got = libc::read(STDIN_FILENO, chunk);
-        if 0 <= got {
-            let t = take_turn(settings, tables, waves, line, chunk, out, k, held, got);
-            if !t.more {
-                return;
+    let mut input = streams.frames;
+    for _ in 0..u64::MAX {
+        match input.read(chunk) {
+            Ok(n) => {
+                let t = take_turn(
+                    streams,
+                    settings,
+                    tables,
+                    waves,
+                    line,
+                    &chunk[..n],
+                    out,
+                    k,
+                    held,
+                );
+                if !t.more {
+                    return;
+                }
+                k = t.card;
+                held = t.held;
             }
-            k = t.card;
-            held = t.held;
-        } else {
-            failed = failed + 1;
-            if failed == 100 {
-                complain(b"bench: standard input cannot be read\n");
-                return;
+            Err(_) => {
+                failed = failed + 1;
+                if failed == 100 {
+                    complain(streams, b"bench: standard input cannot be read\n");
+                    return;
+                }
             }
         }
     }
@@ -75,6 +102,7 @@ fn serve(
 
 // What was read: some bytes, or the end of the input, where the last line may lack its LF.
 fn take_turn(
+    streams: Streams,
     settings: &mut [u16; 16960],
     tables: &mut [u16; 512],
     waves: &mut [u16; 4096],
@@ -83,17 +111,17 @@ fn take_turn(
     out: &mut [u8],
     card: Card,
     held: usize,
-    got: isize,
 ) -> Turn
     requires { 65536 ≤ length out.old }
 {
-    if 0 < got {
-        let n = io::count(got, chunk);
-        return serve_chunk(settings, tables, waves, line, out, card, held, &chunk[..n]);
+    if 0 < chunk.len() {
+        return serve_chunk(
+            streams, settings, tables, waves, line, out, card, held, chunk,
+        );
     }
     if 0 < held {
         let a = end_line(settings, tables, waves, line, held, out, 0, card);
-        write_answers(out, a.end);
+        write_answers(streams, out, a.end);
     }
     Turn {
         card: card,
@@ -104,6 +132,7 @@ fn take_turn(
 
 // The bytes of a chunk one after the other. The answers are written when there may be no room for one more, and at the end.
 fn serve_chunk(
+    streams: Streams,
     settings: &mut [u16; 16960],
     tables: &mut [u16; 512],
     waves: &mut [u16; 4096],
@@ -126,7 +155,7 @@ fn serve_chunk(
             let a = end_line(settings, tables, waves, line, h, out, end, k);
             k = a.card;
             h = 0;
-            end = room_made(out, a.end);
+            end = room_made(streams, out, a.end);
             if LAST_ROOM < end {
                 return stopped(k);
             }
@@ -137,7 +166,7 @@ fn serve_chunk(
     Turn {
         card: k,
         held: h,
-        more: write_answers(out, end),
+        more: write_answers(streams, out, end),
     }
 }
 
@@ -154,14 +183,18 @@ fn stopped(card: Card) -> Turn {
 const LAST_ROOM: usize = 49139;
 
 // Where the answers end once there is room for one more: written, if they must be; still there where they cannot be written.
-fn room_made(out: &[u8], end: usize) -> usize
+fn room_made(streams: Streams, out: &[u8], end: usize) -> usize
     requires { end ≤ 65536 }
     ensures { result ≤ end }
 {
     if end <= LAST_ROOM {
         return end;
     }
-    if write_answers(out, end) { 0 } else { end }
+    if write_answers(streams, out, end) {
+        0
+    } else {
+        end
+    }
 }
 
 // A line ends: it is answered, and LF ends the answer.
@@ -200,20 +233,20 @@ fn keep(line: &mut [u8], held: usize, b: u8) -> usize {
 }
 
 // Writes the first `end` bytes, or says that they cannot be written.
-fn write_answers(out: &[u8], end: usize) -> bool
+fn write_answers(streams: Streams, out: &[u8], end: usize) -> bool
     requires { end ≤ 65536 }
 {
-    let n = io::count(end as isize, out);
-    if io::write_all(STDOUT_FILENO, &out[..n]) {
+    let n = word::least(end, out.len());
+    if streams.answers.write_all(&out[..n]).is_ok() {
         return true;
     }
-    complain(b"bench: standard output cannot be written\n");
+    complain(streams, b"bench: standard output cannot be written\n");
     false
 }
 
-// A word on standard error.
-fn complain(words: &[u8]) {
-    io::write_all(STDERR_FILENO, words);
+// A word on standard error; where it cannot be written there is nobody to tell.
+fn complain(streams: Streams, words: &[u8]) {
+    let _told = streams.words.write_all(words).is_ok();
 }
 
 // ---- frames

@@ -2,11 +2,22 @@
 #![tactic(auto)]
 
 ghost use Rattle.std.specs.Prelude.{◌≤◌, length};
+ghost use Rattle.std.specs.Io.{ReadsAtMost};
 ghost use Rattle.line.specs.Session.{found};
 ghost use Rattle.rampcard.specs.Served.{Served};
 
 use card::Card;
-use libc::{STDERR_FILENO, STDIN_FILENO, STDOUT_FILENO};
+use std::io;
+use std::io::{Print, Read};
+use std::rt::{Stderr, Stdin, Stdout};
+
+// Where frames come from, where their answers go, and where a word is said of what failed.
+#[derive(Clone, Copy)]
+struct Streams {
+    frames: Stdin,
+    answers: Stdout,
+    words: Stderr,
+}
 
 // After a chunk: the card, how many bytes of the open line are held, how many bytes were taken, and whether to go on.
 #[derive(Drop)]
@@ -18,14 +29,20 @@ struct Turn {
 }
 
 // The lent words and buffers, and the session on them.
-fn main() {
+fn main(rt: HostRuntime) {
     let mut settings = [0u16; 16960];
     let mut tables = [0u16; 512];
     let mut waves = [0u16; 4096];
     let mut line = [0u8; 263];
-    let mut chunk = io::large_buffer();
-    let mut out = io::large_buffer();
+    let mut chunk = [0u8; 65536];
+    let mut out = [0u8; 65536];
+    let streams = Streams {
+        frames: rt.stdin(),
+        answers: rt.stdout(),
+        words: rt.stderr(),
+    };
     serve(
+        streams,
         &mut settings,
         &mut tables,
         &mut waves,
@@ -37,6 +54,7 @@ fn main() {
 
 // The session. A proved loop has to end, and nothing says that the input does: the turns are counted down from a number that no run uses up.
 fn serve(
+    streams: Streams,
     settings: &mut [u16; 16960],
     tables: &mut [u16; 512],
     waves: &mut [u16; 4096],
@@ -46,10 +64,8 @@ fn serve(
 ) {
     let mut k = line::start(settings, tables, waves);
     let mut held: usize = 0;
-    let mut turns = u64::MAX;
-    while 0 < turns {
-        turns = turns - 1;
-        let t = take_turn(settings, tables, waves, line, chunk, out, k, held);
+    for _ in 0..u64::MAX {
+        let t = take_turn(streams, settings, tables, waves, line, chunk, out, k, held);
         if !t.more {
             return;
         }
@@ -60,6 +76,7 @@ fn serve(
 
 // Waits for input once, and writes the answers of all lines that it ends.
 fn take_turn(
+    streams: Streams,
     settings: &mut [u16; 16960],
     tables: &mut [u16; 512],
     waves: &[u16; 4096],
@@ -71,15 +88,24 @@ fn take_turn(
 ) -> Turn
     requires { 265 ≤ length out.old }
 {
-    let got = read_some(chunk);
-    if 0 < got {
-        let n = io::count(got, chunk);
-        return serve_chunk(settings, tables, waves, line, out, card, held, &chunk[..n]);
-    }
-    if got == 0 {
-        end_input(settings, tables, waves, line, out, card, held);
-    } else {
-        complain(b"rampcard: standard input cannot be read\n");
+    match read_some(streams.frames, chunk) {
+        Ok(n) => {
+            if 0 < n {
+                return serve_chunk(
+                    streams,
+                    settings,
+                    tables,
+                    waves,
+                    line,
+                    out,
+                    card,
+                    held,
+                    &chunk[..n],
+                );
+            }
+            end_input(streams, settings, tables, waves, line, out, card, held);
+        }
+        Err(_) => complain(streams, b"rampcard: standard input cannot be read\n"),
     }
     Turn {
         card: card,
@@ -91,6 +117,7 @@ fn take_turn(
 
 // The end of the input: the last line may lack its LF.
 fn end_input(
+    streams: Streams,
     settings: &mut [u16; 16960],
     tables: &mut [u16; 512],
     waves: &[u16; 4096],
@@ -100,11 +127,12 @@ fn end_input(
     held: usize,
 ) {
     let s = line::finish(settings, tables, waves, line, out, card, held);
-    write_answers(out, s.end);
+    write_answers(streams, out, s.end);
 }
 
 // One chunk, fed again until all of it is taken; each time the answers are written.
 fn serve_chunk(
+    streams: Streams,
     settings: &mut [u16; 16960],
     tables: &mut [u16; 512],
     waves: &[u16; 4096],
@@ -125,7 +153,7 @@ fn serve_chunk(
         i = i + s.taken;
         k = s.card;
         h = s.held;
-        if !write_answers(out, s.end) {
+        if !write_answers(streams, out, s.end) {
             return Turn {
                 card: k,
                 held: h,
@@ -143,30 +171,30 @@ fn serve_chunk(
 }
 
 // Writes the first n bytes, or says that they cannot be written.
-fn write_answers(out: &[u8], n: usize) -> bool
+fn write_answers(streams: Streams, out: &[u8], n: usize) -> bool
     requires { n ≤ length out.now }
 {
-    if io::write_all(STDOUT_FILENO, &out[..n]) {
+    if streams.answers.write_all(&out[..n]).is_ok() {
         return true;
     }
-    complain(b"rampcard: standard output cannot be written\n");
+    complain(streams, b"rampcard: standard output cannot be written\n");
     false
 }
 
 // Reads once. A read that fails is tried again, a hundred times in all, so that an interrupted one is not the end.
-fn read_some(chunk: &mut [u8]) -> isize {
-    let mut tries: u32 = 0;
-    while tries < 99 {
-        let got = libc::read(STDIN_FILENO, chunk);
-        if 0 <= got {
-            return got;
+fn read_some(frames: Stdin, chunk: &mut [u8]) -> io::Result<usize>
+    ensures { ReadsAtMost result chunk.new }
+{
+    let mut input = frames;
+    for _ in 0..99 {
+        if let Ok(n) = input.read(chunk) {
+            return Ok(n);
         }
-        tries = tries + 1;
     }
-    libc::read(STDIN_FILENO, chunk)
+    input.read(chunk)
 }
 
-// A word on standard error.
-fn complain(words: &[u8]) {
-    io::write_all(STDERR_FILENO, words);
+// A word on standard error; where it cannot be written there is nobody to tell.
+fn complain(streams: Streams, words: &[u8]) {
+    let _told = streams.words.write_all(words).is_ok();
 }

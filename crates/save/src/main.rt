@@ -3,7 +3,16 @@
 #![tactic(auto)]
 
 use card::Card;
-use libc::{STDERR_FILENO, STDIN_FILENO, STDOUT_FILENO};
+use std::io::{Print, Read};
+use std::rt::{Stderr, Stdin, Stdout};
+
+// Where lines come from, where the saved lines go, and where it is told what was refused and what failed.
+#[derive(Clone, Copy)]
+struct Streams {
+    lines: Stdin,
+    saved: Stdout,
+    words: Stderr,
+}
 
 // How many lines were played, and how many of them were not answered 0.
 #[derive(Drop)]
@@ -21,13 +30,19 @@ struct Turn {
 }
 
 // The lent words and buffers, and the session on them.
-fn main() {
+fn main(rt: HostRuntime) {
     let mut settings = [0u16; 16960];
     let mut tables = [0u16; 512];
     let mut waves = [0u16; 4096];
     let mut line = [0u8; 263];
-    let mut chunk = io::large_buffer();
+    let mut chunk = [0u8; 65536];
+    let streams = Streams {
+        lines: rt.stdin(),
+        saved: rt.stdout(),
+        words: rt.stderr(),
+    };
     serve(
+        streams,
         &mut settings,
         &mut tables,
         &mut waves,
@@ -39,6 +54,7 @@ fn main() {
 // The session. Its turns are counted down from a number that no run uses up, since a proved loop has to end. A failed read is tried
 // again, a hundred times in all.
 fn serve(
+    streams: Streams,
     settings: &mut [u16; 16960],
     tables: &mut [u16; 512],
     waves: &mut [u16; 4096],
@@ -55,42 +71,33 @@ fn serve(
         },
     };
     let mut failed: u32 = 0;
-    let mut turns = u64::MAX;
-    while 0 < turns {
-        turns = turns - 1;
-        let got = libc::read(STDIN_FILENO, chunk);
-        if got == 0 {
-            end_input(settings, tables, waves, line, chunk, t);
-            return;
-        }
-        if 0 < got {
-            t = take_turn(settings, tables, waves, line, chunk, t, got);
-        } else {
-            failed = failed + 1;
-            if failed == 100 {
-                complain(b"save: standard input cannot be read; nothing is saved\n");
-                return;
+    let mut input = streams.lines;
+    for _ in 0..u64::MAX {
+        match input.read(chunk) {
+            Ok(n) => {
+                if n == 0 {
+                    end_input(streams, settings, tables, waves, line, chunk, t);
+                    return;
+                }
+                t = play(streams, settings, tables, waves, line, &chunk[..n], t);
+            }
+            Err(_) => {
+                failed = failed + 1;
+                if failed == 100 {
+                    complain(
+                        streams,
+                        b"save: standard input cannot be read; nothing is saved\n",
+                    );
+                    return;
+                }
             }
         }
     }
 }
 
-// The bytes that were read.
-fn take_turn(
-    settings: &mut [u16; 16960],
-    tables: &mut [u16; 512],
-    waves: &[u16; 4096],
-    line: &mut [u8; 263],
-    chunk: &[u8],
-    t: Turn,
-    got: isize,
-) -> Turn {
-    let n = io::count(got, chunk);
-    play(settings, tables, waves, line, &chunk[..n], t)
-}
-
 // Plays bytes one after the other, so that each call gives one answer at most.
 fn play(
+    streams: Streams,
     settings: &mut [u16; 16960],
     tables: &mut [u16; 512],
     waves: &[u16; 4096],
@@ -118,7 +125,7 @@ fn play(
         );
         k = s.card;
         held = s.held;
-        tally = tell(tally, &answer, s.end);
+        tally = tell(streams, tally, &answer, s.end);
     }
     Turn {
         card: k,
@@ -129,6 +136,7 @@ fn play(
 
 // The end of the input: the last line may lack its LF. What was refused is summed up, and the settings are written as lines.
 fn end_input(
+    streams: Streams,
     settings: &mut [u16; 16960],
     tables: &mut [u16; 512],
     waves: &[u16; 4096],
@@ -138,16 +146,19 @@ fn end_input(
 ) {
     let mut answer = [0u8; 265];
     let s = line::finish(settings, tables, waves, line, &mut answer, t.card, t.held);
-    sum_up(tell(t.tally, &answer, s.end));
+    sum_up(streams, tell(streams, t.tally, &answer, s.end));
     let saved = saved::save(settings, out);
     let n = word::least(saved::written(saved), out.len());
-    if !io::write_all(STDOUT_FILENO, &out[..n]) {
-        complain(b"save: standard output cannot be written; the saved lines are not complete\n");
+    if streams.saved.write_all(&out[..n]).is_err() {
+        complain(
+            streams,
+            b"save: standard output cannot be written; the saved lines are not complete\n",
+        );
     }
 }
 
 // Counts the line that the first `end` bytes answer, if they answer one, and tells it if it was refused.
-fn tell(tally: Tally, answer: &[u8], end: usize) -> Tally {
+fn tell(streams: Streams, tally: Tally, answer: &[u8], end: usize) -> Tally {
     if end == 0 {
         return tally;
     }
@@ -159,10 +170,10 @@ fn tell(tally: Tally, answer: &[u8], end: usize) -> Tally {
             refused: tally.refused,
         };
     }
-    complain(b"save: line ");
-    io::print_decimal(STDERR_FILENO, lines);
-    complain(b" is answered ");
-    complain(&answer[..n]);
+    complain(streams, b"save: line ");
+    count(streams, lines);
+    complain(streams, b" is answered ");
+    complain(streams, &answer[..n]);
     Tally {
         lines: lines,
         refused: more(tally.refused),
@@ -170,15 +181,18 @@ fn tell(tally: Tally, answer: &[u8], end: usize) -> Tally {
 }
 
 // What was refused, in all.
-fn sum_up(tally: Tally) {
+fn sum_up(streams: Streams, tally: Tally) {
     if tally.refused == 0 {
         return;
     }
-    complain(b"save: ");
-    io::print_decimal(STDERR_FILENO, tally.refused);
-    complain(b" of ");
-    io::print_decimal(STDERR_FILENO, tally.lines);
-    complain(b" lines refused; the others were done; the guide has the numbers\n");
+    complain(streams, b"save: ");
+    count(streams, tally.refused);
+    complain(streams, b" of ");
+    count(streams, tally.lines);
+    complain(
+        streams,
+        b" lines refused; the others were done; the guide has the numbers\n",
+    );
 }
 
 // One more.
@@ -186,7 +200,11 @@ fn more(n: u64) -> u64 {
     if n < u64::MAX { n + 1 } else { n }
 }
 
-// A word on standard error.
-fn complain(words: &[u8]) {
-    io::write_all(STDERR_FILENO, words);
+// A word, or a number, on standard error; where it cannot be written there is nobody to tell.
+fn complain(streams: Streams, words: &[u8]) {
+    let _told = streams.words.write_all(words).is_ok();
+}
+
+fn count(streams: Streams, n: u64) {
+    let _told = streams.words.print(n).is_ok();
 }
