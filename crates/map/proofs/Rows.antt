@@ -179,6 +179,7 @@ member f [] = false
 member f (x ∷ xs) = eqb f x || member f xs
 
 strange : (xs : List ℕ) (f a : ℕ) → T (member f xs) → Apart xs a → a ≡ f → ⊥
+strange [] f a t d e = elim t [ ]
 strange (x ∷ xs) f a t d e = go (eqb f x) (eqb→eq f x) (λ u. strange xs f a u d.1 e) t
   where
     go : (b : Bool) → (T b → f ≡ x) → (T (member f xs) → ⊥) → T (b || member f xs) → ⊥
