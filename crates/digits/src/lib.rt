@@ -81,7 +81,6 @@ pub fn put2(out: &mut [u8], at: usize, x: usize)
 }
 
 // Four digits.
-#[tactic(auto, unfolding(crate::specs::Digits::hex4))]
 pub fn put4(out: &mut [u8], at: usize, x: usize)
     ensures { out.new ≡ sets out.old at (hex4 x) }
 {

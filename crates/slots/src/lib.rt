@@ -61,7 +61,6 @@ pub fn fill(words: &mut [u16], first: u16, n: u16, word: u16)
 }
 
 // The slots one after the other, but for those of the level `but`.
-#[tactic(auto, unfolding(crate::specs::Slots::holder_from))]
 fn search(words: &[u16], event: u16, but: usize) -> Holder
     ensures { (result ≡ holder_from words.now event but 256 0) × InLevels result }
 {

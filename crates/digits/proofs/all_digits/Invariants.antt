@@ -1,0 +1,10 @@
+-- `digits::all_digits`: the bytes from i on are all digits where the whole line's are.
+use Rattle.std.proofs.Common.{length, ◌-◌, ◌≡◌, ◌≤◌, drop}
+use Rattle.digits.specs.Digits.{all_digits}
+use Rattle.digits.proofs.all_digits.Given as goal
+
+abbrev pub invariant-loop-i : goal.invariant-loop-i
+invariant-loop-i l = (l.i ≤ length l.s) × (all_digits l.s ≡ all_digits (drop l.i l.s))
+
+abbrev pub decreases-loop-i : goal.decreases-loop-i
+decreases-loop-i l = length l.s - l.i

@@ -1,0 +1,70 @@
+-- `sum::rise`: each number, read back, is its part of `above`, and each part fits.
+use mathlib.Core.Path.{◌≡◌}
+use Prim.Native.Nat.{ℕ, ◌<◌, ◌^◌}
+use native.Mathlib.Omega.{arith}
+use lib.IntN.{ℤ, pos}
+use mir.Syntax.{w64}
+use mir.Val.{to_z, of_z}
+use mir.Facts.{to_z-of_z}
+use Rattle.word.specs.Word.{signed_of}
+use Rattle.word.proofs.Sizes.{back}
+use Rattle.word.proofs.Number.{size}
+use Rattle.sum.proofs.Machine.{Words, fits_turn, fits_end, fits_back, fits_above, plain}
+use Rattle.sum.proofs.rise.Goals as goal
+
+words : {from to step left : ℕ} → from < 2 ^ 16 → to < 2 ^ 16 → step < 2 ^ 16 → left < 2 ^ 16 → Words from to step left
+words f t s l = record { from16 = f; to16 = t; step16 = s; left16 = l }
+
+-- a word's number, as a call gives it, read back
+told : (w : ℕ) (r : ℤ) → w < 2 ^ 16 → r ≡ signed_of w → to_z w64 (of_z w64 r) ≡ signed_of w
+told w r h e = back w64 _ e (size w h) tt
+
+counted : (n : ℕ) → n < 2 ^ 16 → to_z w64 n ≡ pos n
+counted n h = plain n (omega arith)
+
+pub overflow_mul-result : goal.overflow_mul-result
+overflow_mul-result c =
+    let r = c.ranges in
+    let k = words r.from.fits r.to.fits r.step.fits r.left.fits in
+    rw (told _ _ r.to.fits c.number-b.ensures, counted _ r.step.fits) (fits_end k)
+
+pub overflow_sub-result : goal.overflow_sub-result
+overflow_sub-result c =
+    let r = c.ranges in
+    let k = words r.from.fits r.to.fits r.step.fits r.left.fits in
+    rw (told _ _ r.to.fits c.number-b.ensures, told _ _ r.from.fits c.number-a.ensures) (fits_turn k)
+
+pub overflow_mul-result-2 : goal.overflow_mul-result-2
+overflow_mul-result-2 c =
+    let r = c.ranges in
+    let k = words r.from.fits r.to.fits r.step.fits r.left.fits in
+    rw (told _ _ r.to.fits c.number-b.ensures, told _ _ r.from.fits c.number-a.ensures, counted _ r.left.fits, to_z-of_z (fits_turn k)) (fits_back k)
+
+pub overflow_sub-result-2 : goal.overflow_sub-result-2
+overflow_sub-result-2 c =
+    let r = c.ranges in
+    let k = words r.from.fits r.to.fits r.step.fits r.left.fits in
+    rw (
+      told _ _ r.to.fits c.number-b.ensures,
+      told _ _ r.from.fits c.number-a.ensures,
+      counted _ r.step.fits,
+      counted _ r.left.fits,
+      to_z-of_z (fits_end k),
+      to_z-of_z (fits_turn k),
+      to_z-of_z (fits_back k),
+    ) (fits_above k)
+
+pub returns : goal.returns
+returns c =
+    let r = c.ranges in
+    let k = words r.from.fits r.to.fits r.step.fits r.left.fits in
+    rw (
+      told _ _ r.to.fits c.number-b.ensures,
+      told _ _ r.from.fits c.number-a.ensures,
+      counted _ r.step.fits,
+      counted _ r.left.fits,
+      to_z-of_z (fits_end k),
+      to_z-of_z (fits_turn k),
+      to_z-of_z (fits_back k),
+      to_z-of_z (fits_above k),
+    )
