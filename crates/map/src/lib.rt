@@ -5,7 +5,7 @@ ghost use Rattle.std.specs.Prelude.{◌≡◌, ◌/◌};
 ghost use Rattle.map.specs.Map.{register_of, accepted_at, channel_rows, card_rows, scan, named_in, point};
 ghost use Rattle.map.specs.Register.{allowed, allowed_setting, is_mode};
 
-#[derive(Drop)]
+#[derive(Clone, Copy)]
 pub enum Access {
     ReadWrite,
     Read,

@@ -34,6 +34,8 @@ cross x c a p b d h = mul-mul-mul_comm x b c d ∙ ap (λ (n : ℕ). n * (b * d)
 -- x · (n · 2 ^ g), for an x of the size a / c
 mul_lit : (f : Format) (x : Float) (s : Bool) (a c n : ℕ) (g : ℤ) → 0 < c → HasValue x s a c → mul f x (fin false n g) ≡ round f s (a * (n * up g)) (c * down g)
 unfolding mul
+mul_lit f nan s a c n g C v = elim v [ ]
+mul_lit f (inf _) s a c n g C v = elim v [ ]
 mul_lit f (fin t m e) s a c n g C v =
     ap (λ (b : Bool). round f b (m * up e * (n * up g)) (down e * down g)) (plus s t v.0)
     ∙ round_same f s (m * up e * (n * up g)) (down e * down g) (a * (n * up g)) (c * down g) (mul-pos (down_pos e) (down_pos g)) (mul-pos C (down_pos g))
@@ -42,6 +44,8 @@ mul_lit f (fin t m e) s a c n g C v =
 -- x / (n · 2 ^ g), for an n above 0
 div_lit : (f : Format) (x : Float) (s : Bool) (a c n : ℕ) (g : ℤ) → 0 < c → HasValue x s a c → div f x (fin false (suc n) g) ≡ round f s (a * down g) (c * (suc n * up g))
 unfolding div
+div_lit f nan s a c n g C v = elim v [ ]
+div_lit f (inf _) s a c n g C v = elim v [ ]
 div_lit f (fin t m e) s a c n g C v =
     let k = suc n * up g in
     let K : 0 < k = mul-pos (zero-lt-suc n) (up_pos g) in

@@ -28,7 +28,6 @@ fn base_of(address: u16) -> u16
 
 // The row that holds an offset, raised to a base. The rows are in order: one that does not hold it rules out all before, or all after.
 // The first look is at row 0, the ramp tables, where most words go; from then on it is at the row in the middle.
-#[tactic(auto, unfolding(crate::specs::Once::once, map::specs::Map::channel_rows, map::specs::Map::card_rows))]
 fn find(base: u16, offset: u16) -> Found
     requires { base < 0x4000 }
     ensures { result ≡ raised_to base (found_in (scan once offset)) }
@@ -73,7 +72,7 @@ const R: Access = Access::Read;
 const W: Access = Access::Write;
 
 // First address, last address, access.
-#[derive(Drop)]
+#[derive(Clone, Copy)]
 struct Row(u16, u16, Access);
 
 // The rows of the paper's table, each once: a channel's, counted from its base, and the card's own.
