@@ -14,7 +14,7 @@ use slots::Holder;
 use sum::Edition;
 
 // What causes a ramp: an accepted trigger's level, and its event, 0xFE if manual.
-#[derive(Drop)]
+#[derive(Clone, Copy)]
 pub struct Cause {
     pub level: u16,
     pub event: u16,
@@ -22,7 +22,7 @@ pub struct Cause {
 
 // The edition, which no address shows, is chosen with the fresh card and never changes. 0x4210 and 0x4211 show the active cause. The pending
 // one is the last trigger's; a load makes it the active one.
-#[derive(Drop)]
+#[derive(Clone, Copy)]
 pub struct Card {
     pub edition: Edition,
     pub channels: [Channel; 4],

@@ -13,21 +13,21 @@ use sum::{Edition, Sum};
 use word::{Micros, Samples};
 
 // A sample's place in its table: the segment, and the samples left in it. None are left at the end point.
-#[derive(Drop)]
+#[derive(Clone, Copy)]
 pub struct Place {
     pub segment: u16,
     pub left: Samples,
 }
 
 // What a ramp's sample moves: the amplitude, and the place in A33 and A34.
-#[derive(Drop)]
+#[derive(Clone, Copy)]
 pub struct Shown {
     pub amplitude: u16,
     pub place: Place,
 }
 
 // What is made of it: the output, the overflow count, and in sine mode the counter.
-#[derive(Drop)]
+#[derive(Clone, Copy)]
 pub struct Signal {
     pub output: u16,
     pub overflow: u16,
@@ -35,7 +35,7 @@ pub struct Signal {
 }
 
 // A ramp on its way: the last sample's place, the microseconds to the next sample, and those from one sample to the next.
-#[derive(Drop)]
+#[derive(Clone, Copy)]
 pub struct Way {
     pub place: Place,
     pub wait: Micros,
@@ -43,7 +43,7 @@ pub struct Way {
 }
 
 // A ramp: none, one on its way, or one whose end is behind it and whose sine runs free.
-#[derive(Drop)]
+#[derive(Clone, Copy)]
 pub enum Ramp {
     Still,
     Going(Way),
@@ -51,7 +51,7 @@ pub enum Ramp {
 }
 
 // At rest, counting toward a load or a start with an older ramp perhaps still running, running, or running free.
-#[derive(Drop)]
+#[derive(Clone, Copy)]
 pub enum Phase {
     Rest,
     Counting(Micros, Ramp),
@@ -60,7 +60,7 @@ pub enum Phase {
 }
 
 // What a load takes for the sine: A01, and the level's frequency and phase.
-#[derive(Drop)]
+#[derive(Clone, Copy)]
 pub struct Tone {
     pub mode: u16,
     pub frequency: u16,
@@ -68,7 +68,7 @@ pub struct Tone {
 }
 
 // What a load copies, beside the table's words.
-#[derive(Drop)]
+#[derive(Clone, Copy)]
 pub struct Loaded {
     pub table: u16,
     pub scale: u16,
@@ -77,7 +77,7 @@ pub struct Loaded {
 }
 
 // The level is the pending one: that of the last trigger.
-#[derive(Drop)]
+#[derive(Clone, Copy)]
 pub struct Channel {
     pub phase: Phase,
     pub level: u16,
@@ -87,7 +87,7 @@ pub struct Channel {
 }
 
 // The sample that a tick gives: none, a ramp's, its first or a later one, with its sum, or one of a free run.
-#[derive(Drop)]
+#[derive(Clone, Copy)]
 pub enum Gave {
     NoSample,
     OfRamp(bool, Sum),
@@ -95,7 +95,7 @@ pub enum Gave {
 }
 
 // A ramp one tick on, what it has moved, and the sample that it gave.
-#[derive(Drop)]
+#[derive(Clone, Copy)]
 pub struct Moved {
     pub ramp: Ramp,
     pub shown: Shown,
@@ -103,7 +103,7 @@ pub struct Moved {
 }
 
 // A channel after the first pass of a tick, and the sample that it gave.
-#[derive(Drop)]
+#[derive(Clone, Copy)]
 pub struct Ticked {
     pub channel: Channel,
     pub gave: Gave,

@@ -92,6 +92,13 @@ module _ (c : ℕ) (x : State) where
   but_done (R.Status d f) a v o i = but_none c x
   but_done (R.Overflow d) a v o i = rw o (but_shown (overflow_cleared (channel_of x.card c)) refl refl refl refl refl)
   but_done R.Unlisted a v o i = but_none c x
+  but_done (R.Slot _) a v o i = elim o [ ]
+  but_done (R.Image _) a v o i = elim o [ ]
+  but_done R.Erase a v o i = elim o [ ]
+  but_done R.Manual a v o i = elim o [ ]
+  but_done R.ActiveLevel a v o i = elim o [ ]
+  but_done R.ActiveEvent a v o i = elim o [ ]
+  but_done (R.Count _) a v o i = elim o [ ]
 
 -- A WRITE IN CHANNEL c'S BLOCK TOUCHES THAT CHANNEL ALONE
 pub frame : Frame

@@ -13,7 +13,6 @@ use Rattle.map.specs.Map.{base}
 use Rattle.slots.specs.declared.Holder.{Holder}
 use Rattle.slots.specs.declared.Holder.TheVariants.{Level, Nobody}
 use Rattle.channel.specs.declared.Channel.{Channel}
-use Rattle.channel.specs.Ramp.{given}
 use Rattle.channel.specs.Signal.{overflows}
 use Rattle.channel.specs.Channel.{Side, side, counting, loads_at, load, start, tick_of, countdown, triggered}
 use Rattle.card.specs.declared.Card.{Card}
@@ -25,7 +24,6 @@ use Rattle.card.proofs.Ticks.{advanced_settings}
 use Rattle.course.specs.Course as C
 use Rattle.course.proofs.Copies.{choose, tick_length, trigger_length}
 use Rattle.course.proofs.Acts.{untimed_table}
-use Rattle.course.proofs.Course.{loads}
 use Rattle.profile.specs.Laws.{InRange, OneVerdict}
 use Rattle.profile.proofs.Right.{verdict_right, one_verdict}
 use Rattle.history.specs.History.{Act, Tick, Write, Ask, HandIn, Renew, edition_by, act, acts, words_done, trigger_by, Words16}

@@ -31,7 +31,7 @@ use Rattle.card.specs.Trigger.{counted, keeping, struck, trigger_of, accepted_of
 use Rattle.card.specs.Tick.{both_passes, advanced, tick_with, ticks}
 use Rattle.card.proofs.All.{two_passes}
 use Rattle.card.specs.Reset.{tables_reset, card_reset, fresh_of}
-use Rattle.transfer.specs.declared.Effect.TheVariants.{Keep, Output, Erase, Nothing}
+use Rattle.transfer.specs.declared.Effect.TheVariants.{Keep, Erase, Nothing}
 use Rattle.transfer.specs.Word.{effect_of, perform_of}
 use Rattle.transfer.specs.Transfer.{processed_of, write_of}
 use Rattle.course.proofs.Copies.{choose}

@@ -20,7 +20,7 @@ use Rattle.map.proofs.Regions.{lies, same_region}
 use Rattle.card.specs.Card.{State}
 use Rattle.transfer.specs.declared.Answer.{Answer}
 use Rattle.transfer.specs.declared.Answer.TheVariants.{Done, BadCount, NoRegion, NoAccess, Beyond, Refused}
-use Rattle.transfer.specs.Word.{held_at, running_at}
+use Rattle.transfer.specs.Word.{effect_of, perform_of, held_at, running_at}
 use Rattle.transfer.specs.Transfer.{Out, number_of, processed_of, address_of, reply_of, bad_count, writable, readable, write_of, read_of}
 use Rattle.transfer.proofs.Loops.{good_count}
 use Rattle.transfer.proofs.Stops.{address_is, write_fits, read_fits}
@@ -156,7 +156,7 @@ each_at : (x : State) (a : ℕ) (vs : List ℕ) (y : State) → EachDone x a vs 
     → WordDone (done_from x a (take i vs)) (a + i) (get_or vs i 0) (done_from x a (take (suc i) vs))
 each_at x a [] y d i h = absurd (omega arith)
 each_at x a (v ∷ vs) y d zero h = let e : a + 0 ≡ a = omega arith in rw e d.0
-each_at x a (v ∷ vs) y d (suc i) h = let e : a + suc i ≡ a + 1 + i = omega arith in rw e (each_at _ (a + 1) vs y d.1 i (omega arith))
+each_at x a (v ∷ vs) y d (suc i) h = let e : a + suc i ≡ a + 1 + i = omega arith in rw e (each_at (perform_of x a (effect_of (register_of a) v)) (a + 1) vs y d.1 i (omega arith))
 
 -- a transfer that is not refused at once has its words, and its region the access
 module _ (may : Access → Bool) (r : Found) (count : ℕ) (ws : List ℕ) (free : first (once may r count ws) ≡ 0) where

@@ -72,6 +72,9 @@ hand_only a (v ∷ vs) level e = go (eqb a 0x4202) refl e (hand_only (a + 1) vs 
 accepted : (st : State) → Sound st → (x : Act) (level : ℕ) → Accepted st x level → trigger_by st x ≡ Level level
 accepted st h (Tick waves event) level b = clock_accepted st h event level b
 accepted st h (Write start count ws) level b = hand_accepted start (words_done st start count ws) level b.place b.inside b.address b.word
+accepted st h (Ask what) level b = elim b [ ]
+accepted st h (HandIn to ws) level b = elim b [ ]
+accepted st h (Renew how) level b = elim b [ ]
 
 only : (st : State) (x : Act) (level : ℕ) → trigger_by st x ≡ Level level → Accepted st x level
 only st (Tick waves event) level e = clock_only st event level e

@@ -38,7 +38,6 @@ use Rattle.course.proofs.Signals.{and_first}
 use Rattle.course.proofs.Moves.{tick_load}
 use Rattle.course.proofs.Course.{Held, loads}
 use Rattle.profile.specs.Laws.{InRange}
-use Rattle.history.specs.History.{Act}
 use Rattle.history.specs.Story.{by_tick}
 use Rattle.history.specs.InRange.{out_before_load}
 use Rattle.history.proofs.Channels.{ramp_phase}

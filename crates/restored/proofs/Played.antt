@@ -98,12 +98,12 @@ laid s t (x ∷ l) = laid s (sets t x.first (words_at s x.first x.count)) l
 pub laid_kept : (s t : List ℕ) (l : List Span) (b : ℕ) → word t b ≡ word s b → word (laid s t l) b ≡ word s b
 unfolding laid
 laid_kept s t [] b e = e
-laid_kept s t (x ∷ l) b e = laid_kept s _ l b (sets_kept s t x.first x.count b e)
+laid_kept s t (x ∷ l) b e = laid_kept s (sets t x.first (words_at s x.first x.count)) l b (sets_kept s t x.first x.count b e)
 
 pub laid_new : (s t : List ℕ) (l : List Span) (b : ℕ) → Partly s t → b < 16960 → within l b ≡ true → word (laid s t l) b ≡ word s b
 unfolding laid
 laid_new s t [] b p h e = absurd (true≢false (sym e))
-laid_new s t (x ∷ l) b p h e = go (inside x b) refl e (laid_new s _ l b (sets_partly s t x.first x.count p) h)
+laid_new s t (x ∷ l) b p h e = go (inside x b) refl e (laid_new s next l b (sets_partly s t x.first x.count p) h)
   where
     next : List ℕ
     next = sets t x.first (words_at s x.first x.count)

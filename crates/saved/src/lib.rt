@@ -148,7 +148,7 @@ const OF_CHANNELS: usize = 52;
 const OF_CHANNEL: usize = 13;
 
 // First address, words.
-#[derive(Drop)]
+#[derive(Clone, Copy)]
 struct Row(u16, u16);
 
 // The spans of a channel, counted from its base, and the card's own.

@@ -13,21 +13,21 @@ ghost use Rattle.sum.specs.Product.{product_of, scaled_by};
 use word::Samples;
 
 // The card's hardware edition: the first rounds a sum once, the second cuts f to a whole number before scaling.
-#[derive(Drop)]
+#[derive(Clone, Copy)]
 pub enum Edition {
     First,
     Second,
 }
 
 // A sample as a word, or none where the sum is out of range.
-#[derive(Drop)]
+#[derive(Clone, Copy)]
 pub enum Sum {
     Word(u16),
     Overflow,
 }
 
 // Where a sum lies: below -32768, from there to 32767, or above.
-#[derive(Drop)]
+#[derive(Clone, Copy)]
 pub enum Side {
     Below,
     Within,

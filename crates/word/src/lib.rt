@@ -32,7 +32,7 @@ pub fn least(a: usize, b: usize) -> usize
 }
 
 // A time in microseconds, as delays and countdowns have it.
-#[derive(Drop)]
+#[derive(Clone, Copy)]
 pub struct Micros(pub u32);
 
 // A time in samples of 10 microseconds, as time steps have it. Neither type is taken for the other.
