@@ -1,7 +1,6 @@
 -- `word::signed`: each half of the words, as the definition has it.
 use Rattle.std.proofs.Common.{◌≡◌, ◌<◌, ◌^◌, ℕ, ℤ, pos, ◌-ℤ◌, sym, ap, ◌∙◌, arith, w32, to_z}
 use mir.Facts.{to_z_pos}
-use Rattle.word.specs.Word.{signed_of}
 use Rattle.word.proofs.Sizes.{back}
 use Rattle.word.proofs.Number.{low, high, size}
 use Rattle.word.proofs.signed.Goals as goal
