@@ -14,14 +14,14 @@ use sum::{Edition, Sum};
 use word::Samples;
 
 // A bench passes, or the first ramp that breaks the profile is named.
-#[derive(Drop)]
+#[derive(Clone, Copy)]
 pub enum Verdict {
     Passes,
     Breaks(Break),
 }
 
 // A ramp that breaks it: channel and level, its table, and the first of its points whose sum is out of range.
-#[derive(Drop)]
+#[derive(Clone, Copy)]
 pub struct Break {
     pub channel: u16,
     pub level: u16,
@@ -30,7 +30,7 @@ pub struct Break {
 }
 
 // The first point of a table whose sum is out of range, if any.
-#[derive(Drop)]
+#[derive(Clone, Copy)]
 pub enum Out {
     At(u16),
     Nowhere,
