@@ -27,7 +27,7 @@ pub enum Found {
 }
 
 // A setting other than a trigger slot: a word that keeps what is written to it.
-#[derive(Drop)]
+#[derive(Clone, Copy)]
 pub enum Setting {
     // V and the time step of a point of a ramp table.
     Value,
@@ -48,7 +48,7 @@ pub enum Setting {
 }
 
 // A word of a channel that is only read: what was loaded, and where the ramp is.
-#[derive(Drop)]
+#[derive(Clone, Copy)]
 pub enum Field {
     Table,
     Scale,
@@ -58,7 +58,7 @@ pub enum Field {
 }
 
 // What the word at an address is. Channels, levels and events are those of the address.
-#[derive(Drop)]
+#[derive(Clone, Copy)]
 pub enum Register {
     Setting(Setting),
     // A setting that no write alters.

@@ -14,7 +14,7 @@ use map::{Access, Field, Found, Register};
 use slots::Holder;
 
 // Why a word is refused.
-#[derive(Drop)]
+#[derive(Clone, Copy)]
 pub enum Why {
     Fixed,
     Value,
@@ -44,7 +44,7 @@ pub enum Effect {
 }
 
 // The answer of a transfer; what it carries is the words processed.
-#[derive(Drop)]
+#[derive(Clone, Copy)]
 pub enum Answer {
     Done(usize),
     BadCount,
