@@ -76,7 +76,6 @@ pub fn tick(
 }
 
 // n ticks with no event.
-#[tactic(auto, unfolding(crate::specs::Tick::advanced))]
 pub fn run(
     settings: &[u16; 16960],
     tables: &mut [u16; 512],
@@ -151,7 +150,6 @@ pub fn with_count(card: Card, level: usize, n: u16) -> Card
 }
 
 // Every channel one microsecond on: all ramp values move, then the outputs are made; a load shows the pending trigger.
-#[tactic(auto, unfolding(crate::specs::Tick::advanced, crate::specs::Tick::second_pass))]
 fn advance(
     settings: &[u16; 16960],
     tables: &mut [u16; 512],

@@ -103,7 +103,6 @@ fn own_sum(loaded: Loaded, v: u16) -> Sum
 }
 
 // The first point up to the ramp's end whose sum is out of range, if any.
-#[tactic(auto, unfolding(crate::specs::Points::out_from))]
 fn first_out(settings: &[u16], c: u16, loaded: Loaded) -> Out
     ensures { result ≡ out_from settings.now (table_at c loaded.table) loaded 64 0 }
 {
