@@ -136,7 +136,6 @@ pub fn refused(answer: &[u8]) -> bool
 }
 
 // The head of a transfer's answer from place `at` on: its name, the number, the words processed.
-#[tactic(auto, unfolding(crate::specs::Answer::head_of))]
 pub fn put_head(out: &mut [u8], at: usize, name: usize, number: u16, processed: usize)
     ensures { out.new ≡ sets out.old at (head_of name number processed) }
 {
@@ -315,7 +314,7 @@ fn answer_ticks(
     at: usize,
 ) -> Answered
     requires { at < 2 ^ 63 }
-    ensures { Gives (on_frame waves.now (before card settings.now tables.old) line.now (Frame.Ticks n)) at out.old out.new settings.new tables.new result }
+    ensures { Gives (on_frame waves.now (before card settings.now tables.old) line.now (Frame.Ticks n)) at out.old out.new settings.now tables.new result }
 {
     let k = card::run(settings, tables, waves, card, n as u32);
     let end = put_outputs(k, 0x83, out, at);
@@ -334,7 +333,7 @@ fn answer_event(
     at: usize,
 ) -> Answered
     requires { at < 2 ^ 63 }
-    ensures { Gives (on_frame waves.now (before card settings.now tables.old) line.now (Frame.Event e)) at out.old out.new settings.new tables.new result }
+    ensures { Gives (on_frame waves.now (before card settings.now tables.old) line.now (Frame.Event e)) at out.old out.new settings.now tables.new result }
 {
     let k = card::tick(settings, tables, waves, card, e);
     let end = put_outputs(k, 0x84, out, at);

@@ -22,7 +22,7 @@ pub struct Span {
 }
 
 // The settings as lines, at the front of the buffer; one that is too short stays as it is.
-#[tactic(auto, unfolding(crate::specs::Saved::text_of, crate::specs::Saved::frames_of, crate::specs::Saved::frames, crate::specs::Saved::saved_text))]
+#[tactic(auto, unfolding(crate::specs::Saved::text_of, crate::specs::Saved::frames_of))]
 pub fn save(settings: &[u16; 16960], out: &mut [u8]) -> Saved
     ensures { Saves (save_of settings.now out.old) result out.new }
 {
@@ -59,7 +59,6 @@ pub fn written(saved: Saved) -> usize
 }
 
 // Span k of the 54: thirteen of each channel from its base, then the card's two.
-#[tactic(auto, unfolding(crate::specs::Saved::holding, crate::specs::Saved::fixed_from, map::specs::Map::channel_rows, map::specs::Map::card_rows))]
 fn span_at(k: usize) -> Span
     requires { k < 54 }
     ensures value { result ≡ get_or spans k (span 0 0) }
