@@ -49,6 +49,7 @@ def arguments(text, at):
 
 def clause(text, mutable, crate):
     now = lambda x: f"{x}.old" if mutable[x] else f"{x}.now"
+    after = lambda x: f"{x}.new" if mutable[x] else f"{x}.now"
     names = "|".join(map(re.escape, mutable)) or "$^"
     for name, places in PLACES.items():
         if "/" in name:
@@ -62,13 +63,13 @@ def clause(text, mutable, crate):
             for (s, e), p in zip(arguments(text, m.end()), places):
                 x = text[s:e]
                 if p != "-" and x in mutable:
-                    out += text[done:s] + {"b": now(x), "a": f"{x}.new", "2": f"{now(x)} {x}.new"}[p]
+                    out += text[done:s] + {"b": now(x), "a": after(x), "2": f"{now(x)} {after(x)}"}[p]
                     done = e
         text = out + text[done:]
     text = re.sub(r"\(lent (" + names + r")\)", lambda m: now(m.group(1)), text)
     text = re.sub(r"(?<![\w.])lent (" + names + r")(?![\w.])", lambda m: now(m.group(1)), text)
-    text = re.sub(r"\(left (" + names + r")\)", r"\1.new", text)
-    return re.sub(r"(?<![\w.])left (" + names + r")(?![\w.])", r"\1.new", text)
+    text = re.sub(r"\(left (" + names + r")\)", lambda m: after(m.group(1)), text)
+    return re.sub(r"(?<![\w.])left (" + names + r")(?![\w.])", lambda m: after(m.group(1)), text)
 
 
 def source(path):
