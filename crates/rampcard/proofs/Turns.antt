@@ -6,7 +6,7 @@ use native.Mathlib.Omega.{arith}
 use lib.ListN.{length, take, drop, length-drop}
 use lib.Seq.{take-add, take_all}
 use Rattle.card.specs.declared.Card.{Card}
-use Rattle.card.specs.Card.{State, state}
+use Rattle.card.specs.Card.{State}
 use Rattle.line.specs.declared.Stream.{Stream}
 use Rattle.line.specs.Session.{Flow, flow, bare, after, most, longest, opened, feed_of, taken_of, Fed}
 use Rattle.line.proofs.Flows.{feed_append, feed_after, taken_most, taken_some}
