@@ -8,7 +8,7 @@ ghost use Rattle.saved.specs.Laws.{bytes_in};
 ghost use Rattle.saved.specs.Saved.{span, spans, pieces, cut, words_at, line_text, text_of, Lays, save_of, Saves, saved_number, bytes_of};
 
 // The answer to a save: the lines were written, so many bytes of them; or the buffer is too short for them.
-#[derive(Drop)]
+#[derive(Clone, Copy)]
 pub enum Saved {
     Lines(usize),
     TooShort,

@@ -1,0 +1,12 @@
+-- `bench::whole`: what truncating asks is what the two tests say.
+use Rattle.std.proofs.Common.{T, sym, subst}
+use Rattle.std.specs.Float.Ieee.{of_bits, neg}
+use Rattle.bench.proofs.whole.Goals as goal
+
+pub truncating_f64_to_u64-requires-clause-lower_bound : goal.truncating_f64_to_u64-requires-clause-lower_bound
+unfolding of_bits neg
+truncating_f64_to_u64-requires-clause-lower_bound c = subst T (sym c.if-x.true) tt
+
+pub truncating_f64_to_u64-requires-clause-upper_bound : goal.truncating_f64_to_u64-requires-clause-upper_bound
+unfolding of_bits
+truncating_f64_to_u64-requires-clause-upper_bound c = subst T (sym c.if-x-2.true) tt
