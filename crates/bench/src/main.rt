@@ -54,7 +54,7 @@ fn main(rt: HostRuntime) {
     );
 }
 
-// The session. Its turns are counted down from a number that no run uses up, since a proved loop has to end. A failed read is tried
+// The session. Its turns are counted, up to a number that no run uses up, since a proved loop has to end. A failed read is tried
 // again, a hundred times in all.
 fn serve(
     streams: Streams,

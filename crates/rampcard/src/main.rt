@@ -52,7 +52,7 @@ fn main(rt: HostRuntime) {
     );
 }
 
-// The session. A proved loop has to end, and nothing says that the input does: the turns are counted down from a number that no run uses up.
+// The session. A proved loop has to end, and nothing says that the input does: the turns are counted, up to a number that no run uses up.
 fn serve(
     streams: Streams,
     settings: &mut [u16; 16960],
