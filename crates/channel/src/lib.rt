@@ -153,7 +153,7 @@ pub fn trigger(
 ) -> Channel
     ensures { Leaves (triggered settings.now tables.old c ch level) result tables.new }
 {
-    let d = word_at(settings, c, 0x8E0, level);
+    let d = word_at(settings, c, map::DELAYS, level);
     if d <= 10 {
         return load_level(settings, tables, c, ch, level);
     }
@@ -199,13 +199,13 @@ pub fn just_loaded(ch: Channel) -> bool
 pub fn settings_for(settings: &[u16], c: u16, level: u16) -> Loaded
     ensures { result ≡ loaded_for settings.now c level }
 {
-    let table = word_at(settings, c, 0x800, level);
-    let scale_entry = word_at(settings, c, 0x840, level);
-    let offset_entry = word_at(settings, c, 0x880, level);
+    let table = word_at(settings, c, map::RAMP_MAP, level);
+    let scale_entry = word_at(settings, c, map::SCALE_MAP, level);
+    let offset_entry = word_at(settings, c, map::OFFSET_MAP, level);
     Loaded {
         table: table,
-        scale: word_at(settings, c, 0x860, scale_entry),
-        offset: word_at(settings, c, 0x8A0, offset_entry),
+        scale: word_at(settings, c, map::SCALES, scale_entry),
+        offset: word_at(settings, c, map::OFFSETS, offset_entry),
         tone: tone_for(settings, c, level),
     }
 }
@@ -392,13 +392,13 @@ fn load_level(settings: &[u16], tables: &mut [u16], c: u16, ch: Channel, level: 
 fn tone_for(settings: &[u16], c: u16, level: u16) -> Tone
     ensures { result ≡ tone_for settings.now c level }
 {
-    let mode = word::get(settings, (c as usize) * 0x1000 + 0xA01);
-    let frequency_entry = word_at(settings, c, 0x900, level);
-    let phase_entry = word_at(settings, c, 0x940, level);
+    let mode = word_at(settings, c, map::MODE, 0);
+    let frequency_entry = word_at(settings, c, map::FREQUENCY_MAP, level);
+    let phase_entry = word_at(settings, c, map::PHASE_MAP, level);
     Tone {
         mode: mode,
-        frequency: word_at(settings, c, 0x920, frequency_entry),
-        phase: word_at(settings, c, 0x960, phase_entry),
+        frequency: word_at(settings, c, map::FREQUENCIES, frequency_entry),
+        phase: word_at(settings, c, map::PHASES, phase_entry),
     }
 }
 
@@ -432,7 +432,7 @@ fn start_ramp(settings: &[u16], tables: &[u16], edition: Edition, c: u16, ch: Ch
 {
     let loaded = ch.loaded;
     let shown = ch.shown;
-    if word::get(settings, (c as usize) * 0x1000 + 0xA00) == 1 {
+    if word_at(settings, c, map::ENABLE, 0) == 1 {
         return moved_on(
             ch,
             sample_given(

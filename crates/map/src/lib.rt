@@ -5,6 +5,38 @@ ghost use Rattle.std.specs.Prelude.{◌≡◌, ◌/◌};
 ghost use Rattle.map.specs.Map.{register_of, accepted_at, channel_rows, card_rows, scan, named_in, point};
 ghost use Rattle.map.specs.Register.{allowed, allowed_setting, is_mode};
 
+// A channel's block, and where its settings begin in it.
+pub const BLOCK: u16 = 0x1000;
+
+pub const RAMP_MAP: u16 = 0x800;
+
+pub const SCALE_MAP: u16 = 0x840;
+
+pub const SCALES: u16 = 0x860;
+
+pub const OFFSET_MAP: u16 = 0x880;
+
+pub const OFFSETS: u16 = 0x8A0;
+
+pub const DELAYS: u16 = 0x8E0;
+
+pub const FREQUENCY_MAP: u16 = 0x900;
+
+pub const FREQUENCIES: u16 = 0x920;
+
+pub const PHASE_MAP: u16 = 0x940;
+
+pub const PHASES: u16 = 0x960;
+
+pub const ENABLE: u16 = 0xA00;
+
+pub const MODE: u16 = 0xA01;
+
+// The card's own: the trigger map, and whether clock triggers are enabled.
+pub const SLOTS: usize = 0x4000;
+
+pub const CLOCK_ENABLE: usize = 0x4200;
+
 #[derive(Clone, Copy)]
 pub enum Access {
     ReadWrite,
