@@ -79,7 +79,7 @@ fn serve(
                     end_input(streams, settings, tables, waves, line, chunk, t);
                     return;
                 }
-                t = play(streams, settings, tables, waves, line, &chunk[..n], t);
+                t = take_turn(streams, settings, tables, waves, line, chunk, t, n);
             }
             Err(_) => {
                 failed = failed + 1;
@@ -93,6 +93,21 @@ fn serve(
             }
         }
     }
+}
+
+// The bytes that were read.
+fn take_turn(
+    streams: Streams,
+    settings: &mut [u16; 16960],
+    tables: &mut [u16; 512],
+    waves: &[u16; 4096],
+    line: &mut [u8; 263],
+    chunk: &[u8],
+    t: Turn,
+    got: usize,
+) -> Turn {
+    let n = word::least(got, chunk.len());
+    play(streams, settings, tables, waves, line, &chunk[..n], t)
 }
 
 // Plays bytes one after the other, so that each call gives one answer at most.
