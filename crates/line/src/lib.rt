@@ -16,7 +16,7 @@ use card::Card;
 use sum::Edition;
 
 // What a line says.
-#[derive(Drop)]
+#[derive(Clone, Copy)]
 pub enum Frame {
     Write { start: u16, count: usize },
     Read { start: u16, count: usize },
@@ -27,14 +27,14 @@ pub enum Frame {
 }
 
 // The card after an answer, and where the answer ends in the buffer.
-#[derive(Drop)]
+#[derive(Clone, Copy)]
 pub struct Answered {
     pub card: Card,
     pub end: usize,
 }
 
 // After some bytes: the card, how many bytes of the open line are held, where the answers end, and how many bytes were taken.
-#[derive(Drop)]
+#[derive(Clone, Copy)]
 pub struct Stream {
     pub card: Card,
     pub held: usize,

@@ -45,14 +45,14 @@ pub enum Access {
 }
 
 // A region of the map: its first address, its last, and what may be done there.
-#[derive(Drop)]
+#[derive(Clone, Copy)]
 pub struct Region {
     pub first: u16,
     pub last: u16,
     pub access: Access,
 }
 
-#[derive(Drop)]
+#[derive(Clone, Copy)]
 pub enum Found {
     At(Region),
     Nothing,

@@ -10,7 +10,7 @@ use map::{Field, Register, Setting};
 use word::{Micros, Samples};
 
 // A reading: volts or a factor, a time of either kind, a plain number, or nothing.
-#[derive(Drop)]
+#[derive(Clone, Copy)]
 pub enum Reading {
     Volts(f64),
     Factor(f64),
@@ -21,13 +21,13 @@ pub enum Reading {
 }
 
 // A point of a ramp: its volts, and the microseconds since the start.
-#[derive(Drop)]
+#[derive(Clone, Copy)]
 pub struct Plotted {
     pub volts: f64,
     pub micros: f64,
 }
 
-#[derive(Drop)]
+#[derive(Clone, Copy)]
 pub enum Plot {
     Point(Plotted),
     Nothing,

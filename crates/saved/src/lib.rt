@@ -15,7 +15,7 @@ pub enum Saved {
 }
 
 // Words one after the other: the first address, and how many.
-#[derive(Drop)]
+#[derive(Clone, Copy)]
 pub struct Span {
     pub first: usize,
     pub count: usize,

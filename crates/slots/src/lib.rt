@@ -6,7 +6,7 @@ ghost use Rattle.std.specs.Prelude.{◌≡◌, ◌+◌, ◌<◌};
 ghost use Rattle.slots.specs.Slots.{holds, holder_from, holder_of, other_of, image_of, filled, erased, InLevels};
 
 // The level that holds an event, or none.
-#[derive(Drop)]
+#[derive(Clone, Copy)]
 pub enum Holder {
     Level(u16),
     Nobody,

@@ -22,14 +22,14 @@ pub enum Why {
     Running,
 }
 
-#[derive(Drop)]
+#[derive(Clone, Copy)]
 pub enum Verdict {
     Accepted,
     Refused(Why),
 }
 
 // What an accepted word does: all that a write can do.
-#[derive(Drop)]
+#[derive(Clone, Copy)]
 pub enum Effect {
     // The word at the address becomes this.
     Keep(u16),
@@ -55,27 +55,27 @@ pub enum Answer {
 }
 
 // What a transfer says: the answer, and the address of the first word not done.
-#[derive(Drop)]
+#[derive(Clone, Copy)]
 pub struct Reply {
     pub answer: Answer,
     pub address: u16,
 }
 
-#[derive(Drop)]
+#[derive(Clone, Copy)]
 pub struct Written {
     pub card: Card,
     pub reply: Reply,
 }
 
 // The card after the words of a write, and their answer.
-#[derive(Drop)]
+#[derive(Clone, Copy)]
 struct Outcome {
     card: Card,
     answer: Answer,
 }
 
 // The card after one word, and whether the word was done.
-#[derive(Drop)]
+#[derive(Clone, Copy)]
 pub struct Stepped {
     pub card: Card,
     pub verdict: Verdict,

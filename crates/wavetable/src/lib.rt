@@ -7,7 +7,7 @@ ghost use Rattle.wavetable.specs.Hand.{in_wave, all_in_wave, bad_table, hand_of,
 use card::Card;
 
 // The answer to a wave table: taken, or why it is not.
-#[derive(Drop)]
+#[derive(Clone, Copy)]
 pub enum Reply {
     Taken,
     Bad,
