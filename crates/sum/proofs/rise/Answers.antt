@@ -2,13 +2,14 @@
 use mathlib.Core.Path.{◌≡◌}
 use Prim.Native.Nat.{ℕ, ◌<◌, ◌^◌}
 use native.Mathlib.Omega.{arith}
-use lib.IntN.{ℤ, pos}
+use lib.IntN.{ℤ, pos, ◌-ℤ◌, ◌*ℤ◌}
 use mir.Syntax.{w64}
 use mir.Val.{to_z, of_z}
 use mir.Facts.{to_z-of_z}
 use Rattle.word.specs.Word.{signed_of}
 use Rattle.word.proofs.Sizes.{back}
 use Rattle.word.proofs.Number.{size}
+use Rattle.sum.specs.Fraction.{above}
 use Rattle.sum.proofs.Machine.{Words, fits_turn, fits_end, fits_back, fits_above, plain}
 use Rattle.sum.proofs.rise.Goals as goal
 
@@ -21,6 +22,21 @@ told w r h e = back w64 _ e (size w h) tt
 
 counted : (n : ℕ) → n < 2 ^ 16 → to_z w64 n ≡ pos n
 counted n h = plain n (omega arith)
+
+-- the difference of the two products, each read back
+difference : {from to step left : ℕ} (a b : ℤ) → Words from to step left → a ≡ signed_of from → b ≡ signed_of to
+    → to_z w64 (of_z w64 (to_z w64 (of_z w64 b) *ℤ to_z w64 step)) -ℤ to_z w64 (of_z w64 (to_z w64 (of_z w64 (to_z w64 (of_z w64 b) -ℤ to_z w64 (of_z w64 a))) *ℤ to_z w64 left))
+    ≡ above (signed_of from) (signed_of to) step left
+difference a b k e f =
+    rw (
+      told _ _ k.to16 f,
+      told _ _ k.from16 e,
+      counted _ k.step16,
+      counted _ k.left16,
+      to_z-of_z (fits_end k),
+      to_z-of_z (fits_turn k),
+      to_z-of_z (fits_back k),
+    )
 
 pub overflow_mul-result : goal.overflow_mul-result
 overflow_mul-result c =
@@ -44,27 +60,10 @@ pub overflow_sub-result-2 : goal.overflow_sub-result-2
 overflow_sub-result-2 c =
     let r = c.ranges in
     let k = words r.from.fits r.to.fits r.step.fits r.left.fits in
-    rw (
-      told _ _ r.to.fits c.number-b.ensures,
-      told _ _ r.from.fits c.number-a.ensures,
-      counted _ r.step.fits,
-      counted _ r.left.fits,
-      to_z-of_z (fits_end k),
-      to_z-of_z (fits_turn k),
-      to_z-of_z (fits_back k),
-    ) (fits_above k)
+    rw (difference _ _ k c.number-a.ensures c.number-b.ensures) (fits_above k)
 
 pub returns : goal.returns
 returns c =
     let r = c.ranges in
     let k = words r.from.fits r.to.fits r.step.fits r.left.fits in
-    rw (
-      told _ _ r.to.fits c.number-b.ensures,
-      told _ _ r.from.fits c.number-a.ensures,
-      counted _ r.step.fits,
-      counted _ r.left.fits,
-      to_z-of_z (fits_end k),
-      to_z-of_z (fits_turn k),
-      to_z-of_z (fits_back k),
-      to_z-of_z (fits_above k),
-    )
+    rw (difference _ _ k c.number-a.ensures c.number-b.ensures, to_z-of_z (fits_above k))
