@@ -1,75 +1,66 @@
 -- Four channels, one after the other, each over the tables that the one before left; and both passes of a tick are four whole ticks, one
 -- channel's after the other's (`two_passes`). Assumes nothing.
-use mathlib.Core.Path.{◌≡◌, refl, ap, ◌∙◌}
-use mathlib.Core.List.{List, [], ◌∷◌}
-use Prim.Native.Nat.{ℕ}
+use Rattle.std.proofs.Common.{◌≡◌, refl, ap, subst, ◌∙◌, ℕ, zero, suc, ◌+◌, List, [], ◌∷◌, length, add-one, arith, get_or}
+use Rattle.std.proofs.Math.ListN.{set}
 use Rattle.channel.specs.declared.Channel.{Channel}
-use Rattle.channel.specs.declared.Ticked.{Ticked}
-use Rattle.channel.specs.Channel.{Side, Move, ticked, move_of, tick_of}
+use Rattle.channel.specs.Channel.{Side, tick_of}
 use Rattle.card.specs.declared.Card.{Card}
-use Rattle.card.specs.Card.{State, channel_of, on_all}
-use Rattle.card.specs.Tick.{Pass, first_pass, second_pass, both_passes}
+use Rattle.card.specs.Card.{State, All, no_channel, with_channels, on_all}
+use Rattle.card.specs.Tick.{first_pass, second_pass, both_passes}
 
 -- a channel and its tables are those of a side
 pub record Made (ch : Channel) (l : List ℕ) (s : Side) : Type 0 where
   pub channel : ch ≡ s.channel
   pub tables : l ≡ s.tables
 
-pub list4 : {a a' b b' c c' d d' : Channel} → a ≡ a' → b ≡ b' → c ≡ c' → d ≡ d' → a ∷ b ∷ c ∷ d ∷ [] ≡ a' ∷ b' ∷ c' ∷ d' ∷ []
-list4 {a} {a'} {b} {b'} {c} {c'} {d} {d'} p q r s =
-    ap (λ (x : Channel). x ∷ b ∷ c ∷ d ∷ []) p
-    ∙ ap (λ (x : Channel). a' ∷ x ∷ c ∷ d ∷ []) q
-    ∙ ap (λ (x : Channel). a' ∷ b' ∷ x ∷ d ∷ []) r
-    ∙ ap (λ (x : Channel). a' ∷ b' ∷ c' ∷ x ∷ []) s
+module _ (f : ℕ → List ℕ → Channel → Side) where
+  -- the first n of some channels done
+  unfoldable pub done : List Channel → List ℕ → ℕ → All
+  done chs l zero = record { channels = chs; tables = l }
+  done chs l (suc n) =
+      let a : All = done chs l n in
+      let s : Side = f n a.tables (get_or a.channels n no_channel) in
+      record { channels = set a.channels n s.channel; tables = s.tables }
 
-module _ (f : ℕ → List ℕ → Channel → Side) (k : Card) where
-  -- the same over tables that are equal
-  follow : (i : ℕ) {l l' m : List ℕ} {ch : Channel} → l ≡ l' → Made ch m (f i l (channel_of k i)) → Made ch m (f i l' (channel_of k i))
-  follow i e s = record {
-    channel = s.channel ∙ ap (λ (x : List ℕ). (f i x (channel_of k i)).channel) e;
-    tables = s.tables ∙ ap (λ (x : List ℕ). (f i x (channel_of k i)).tables) e;
-  }
+  module _ (k : Card) (l : List ℕ) where
+    -- a card and the tables, the first n of the channels done
+    pub record Done (k' : Card) (l' : List ℕ) (n : ℕ) : Type 0 where
+      pub card : k' ≡ with_channels k (done k.channels l n).channels
+      pub tables : l' ≡ (done k.channels l n).tables
 
-  pub all_four : {l la lb lc ld : List ℕ} {a b c d : Channel}
-      → Made a la (f 0 l (channel_of k 0)) → Made b lb (f 1 la (channel_of k 1)) → Made c lc (f 2 lb (channel_of k 2)) → Made d ld (f 3 lc (channel_of k 3))
-      → (a ∷ b ∷ c ∷ d ∷ [] ≡ (on_all f k l).channels) × (ld ≡ (on_all f k l).tables)
-  unfolding on_all
-  all_four p q r s =
-      let q' = follow 1 p.tables q in
-      let r' = follow 2 q'.tables r in
-      let s' = follow 3 r'.tables s in
-      (list4 p.channel q'.channel r'.channel s'.channel, s'.tables)
+    pub none : Done k l 0
+    unfolding done
+    none = record { card = refl; tables = refl }
 
--- ---- the first pass
+    pub more : (n : ℕ) {k' : Card} {m m' : List ℕ} {ch : Channel} → Done k' m n → Made ch m' (f n m (get_or k'.channels n no_channel)) → Done (with_channels k' (set k'.channels n ch)) m' (n + 1)
+    unfolding done
+    more n {k'} {m} {m'} {ch} d s =
+        let g = λ (x : Card). λ (t : List ℕ). f n t (get_or x.channels n no_channel) in
+        let e : g k' m ≡ g (with_channels k (done k.channels l n).channels) (done k.channels l n).tables = rw (d.card, d.tables) in
+        rw add-one
+        (record {
+          card = ap (λ (x : Card). with_channels x (set x.channels n ch)) d.card ∙ ap (λ (x : Channel). with_channels k (set (done k.channels l n).channels n x)) (s.channel ∙ ap (λ (x : Side). x.channel) e);
+          tables = s.tables ∙ ap (λ (x : Side). x.tables) e;
+        })
 
--- what a channel hands back, and the tables, are those of a move
-pub record Moves (t : Ticked) (l : List ℕ) (x : Move) : Type 0 where
-  pub handed : t ≡ ticked x
-  pub tables : l ≡ x.tables
+    four : (chs : List Channel) → length chs ≡ 4 → done chs l 4 ≡ on_all f (with_channels k chs) l
+    unfolding done on_all
+    four (a ∷ b ∷ c ∷ d ∷ []) h = refl
+    four [] h = absurd (omega (arith, h))
+    four (a ∷ []) h = absurd (omega (arith, h))
+    four (a ∷ b ∷ []) h = absurd (omega (arith, h))
+    four (a ∷ b ∷ c ∷ []) h = absurd (omega (arith, h))
+    four (a ∷ b ∷ c ∷ d ∷ e ∷ r) h = absurd (omega (arith, h))
 
-pass4 : {a a' b b' c c' d d' : Ticked} → a ≡ a' → b ≡ b' → c ≡ c' → d ≡ d'
-    → ◌≡◌ {A = Pass} (record { zero = a; one = b; two = c; three = d }) (record { zero = a'; one = b'; two = c'; three = d' })
-pass4 p q r s = rw (p, q, r, s)
+    pub all_four : {k' : Card} {l' : List ℕ} {n : ℕ} → length k.channels ≡ 4 → n ≡ 4 → Done k' l' n → (k' ≡ with_channels k (on_all f k l).channels) × (l' ≡ (on_all f k l).tables)
+    unfolding on_all
+    all_four {k'} {l'} h e x =
+        let P : ℕ → Type 0 = λ m. Done k' l' m in
+        let d : Done k' l' 4 = subst P e x in
+        let g = four k.channels h in
+        (d.card ∙ ap (λ (x : All). with_channels k x.channels) g, d.tables ∙ ap (λ (x : All). x.tables) g)
 
-module _ (st : State) where
-  abbrev go : ℕ → List ℕ → Move
-  go i l = move_of st.card.edition st.settings l i (channel_of st.card i)
-
-  move_on : (i : ℕ) {l l' m : List ℕ} {t : Ticked} → l ≡ l' → Moves t m (go i l) → Moves t m (go i l')
-  move_on i e s = record { handed = s.handed ∙ ap (λ (x : List ℕ). ticked (go i x)) e; tables = s.tables ∙ ap (λ (x : List ℕ). (go i x).tables) e }
-
-  pub all_moved : {la lb lc ld : List ℕ} {a b c d : Ticked} → Moves a la (go 0 st.tables) → Moves b lb (go 1 la) → Moves c lc (go 2 lb) → Moves d ld (go 3 lc)
-      → (◌≡◌ {A = Pass} (record { zero = a; one = b; two = c; three = d }) (first_pass st).pass) × (ld ≡ (first_pass st).tables)
-  unfolding first_pass
-  all_moved p q r s =
-      let q' = move_on 1 p.tables q in
-      let r' = move_on 2 q'.tables r in
-      let s' = move_on 3 r'.tables s in
-      (pass4 p.handed q'.handed r'.handed s'.handed, s'.tables)
-
--- ---- both passes
-
--- a channel's output is made of its own sample, so it does not matter that the other ramps move in between
+-- both passes: a channel's output is made of its own sample, so it does not matter that the other ramps move in between
 pub two_passes : (w : List ℕ) (st : State) → both_passes w st ≡ on_all (λ c l ch. tick_of st.card.edition st.settings w l c ch) st.card st.tables
 unfolding first_pass second_pass on_all tick_of
 two_passes w st = refl

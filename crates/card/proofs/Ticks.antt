@@ -1,4 +1,5 @@
 -- Ticks add up, and no tick touches a setting. Assumes nothing.
+use Rattle.std.specs.Prelude.{Option, Some, None}
 use mathlib.Core.Path.{◌≡◌, refl, ap, ◌∙◌}
 use mathlib.Core.List.{List}
 use Prim.Native.Nat.{ℕ, zero, suc, ◌+◌, ◌-◌, ◌≤◌, ◌<◌}
@@ -6,8 +7,6 @@ use native.Mathlib.Nat.{zero-add, suc-add}
 use native.Mathlib.Omega.{arith}
 use Rattle.card.specs.declared.Card.{Card}
 use Rattle.card.specs.Card.{State, state}
-use Rattle.slots.specs.declared.Holder.{Holder}
-use Rattle.slots.specs.declared.Holder.TheVariants.{Level, Nobody}
 use Rattle.card.specs.Trigger.{trigger_of, accepted_of, on_event}
 use Rattle.card.specs.Tick.{advanced, tick_with, ticks}
 
@@ -32,9 +31,9 @@ pub tick_settings : (w : List ℕ) (st : State) (event : ℕ) → (tick_with w s
 unfolding advanced
 tick_settings w st event = go (accepted_of st.settings event)
   where
-    go : (h : Holder) → (on_event h (advanced w st) event).settings ≡ st.settings
-    go (Level level) = trigger_settings (advanced w st) level event
-    go Nobody = refl
+    go : (h : Option ℕ) → (on_event h (advanced w st) event).settings ≡ st.settings
+    go (Some level) = trigger_settings (advanced w st) level event
+    go None = refl
 
 -- NOR DO N TICKS
 pub ticks_settings : (w : List ℕ) (n : ℕ) (st : State) → (ticks w n st).settings ≡ st.settings
@@ -57,10 +56,7 @@ pub one_more : (w : List ℕ) (n i : ℕ) (st : State) → i < n → ticks w (n 
 unfolding ticks
 one_more w n i st h = let e : n - i ≡ suc (n - (i + 1)) = omega arith in ap (λ (m : ℕ). ticks w m st) e
 
--- none done, and all done
-pub none_done : (w : List ℕ) (n : ℕ) (st : State) → ticks w (n - 0) st ≡ ticks w n st
-none_done w n st = let e : n - 0 ≡ n = omega arith in ap (λ (m : ℕ). ticks w m st) e
-
+-- all done
 pub all_done : (w : List ℕ) (n i : ℕ) (st : State) → i ≤ n → n ≤ i → st ≡ ticks w (n - i) st
 unfolding ticks
 all_done w n i st g h = let e : 0 ≡ n - i = omega arith in ap (λ (m : ℕ). ticks w m st) e

@@ -1,8 +1,6 @@
 -- 'Events and levels'.
-use Rattle.std.specs.Prelude.{cond, List, ℕ, eqb}
+use Rattle.std.specs.Prelude.{cond, List, ℕ, eqb, Option, Some, None}
 use Rattle.word.specs.Word.{grown}
-use Rattle.slots.specs.declared.Holder.{Holder}
-use Rattle.slots.specs.declared.Holder.TheVariants.{Level, Nobody}
 use Rattle.slots.specs.Slots.{holder_of}
 use Rattle.channel.specs.Channel.{word, triggered}
 use Rattle.card.specs.declared.Cause.{Cause}
@@ -30,13 +28,13 @@ trigger_of st level event =
     (struck st level).tables
 
 -- 'an event other than 0xFE, received while 0x4200 is 1 and held by some slot of level L, is an accepted trigger of L'
-unfoldable pub accepted_of : List ℕ → ℕ → Holder
-accepted_of s event = cond (eqb event 0xFE) Nobody (cond (eqb (word s 0x4200) 1) (holder_of s event) Nobody)
+unfoldable pub accepted_of : List ℕ → ℕ → Option ℕ
+accepted_of s event = cond (eqb event 0xFE) None (cond (eqb (word s 0x4200) 1) (holder_of s event) None)
 
 -- 'any other event does nothing beyond its tick'
-abbrev pub on_event : Holder → State → ℕ → State
-on_event (Level level) st event = trigger_of st level event
-on_event Nobody st event = st
+abbrev pub on_event : Option ℕ → State → ℕ → State
+on_event (Some level) st event = trigger_of st level event
+on_event None st event = st
 
 abbrev pub event_of : State → ℕ → State
 event_of st event = on_event (accepted_of st.settings event) st event

@@ -1,16 +1,15 @@
-// The card: four channels, triggers, clock events and ticks. Settings, loaded tables and wave tables are lent, the rest goes by value.
+// The card: four channels, triggers, clock events and ticks. Settings, loaded tables and wave tables are lent, each by itself, so that `&` or
+// `&mut` says whether a call may change it; the rest goes by value.
 #![tactic(auto)]
 
-ghost use Rattle.std.specs.Prelude.{◌≡◌, cond};
-ghost use Rattle.channel.specs.Channel.{sounded};
+ghost use Rattle.std.specs.Prelude.{◌≡◌};
 ghost use Rattle.card.specs.Card.{before, Leaves, LeavesWhole, LeavesAll, no_channel, channel_of, with_channel, count_of, with_count};
-ghost use Rattle.card.specs.Active.{cause, some_loaded, showing};
-ghost use Rattle.card.specs.Trigger.{counted, keeping, struck, trigger_of, accepted_of, event_of};
+ghost use Rattle.card.specs.Active.{some_loaded, showing};
+ghost use Rattle.card.specs.Trigger.{counted, struck, trigger_of, accepted_of, event_of};
 ghost use Rattle.card.specs.Tick.{advanced, tick_with, ticks};
 ghost use Rattle.card.specs.Reset.{settings_reset, waves_reset, card_reset, fresh_of, reset_of};
 
-use channel::{Channel, Gave, Loaded, Phase, Ticked};
-use slots::Holder;
+use channel::{Channel, Loaded};
 use sum::Edition;
 
 // What causes a ramp: an accepted trigger's level, and its event, 0xFE if manual.
@@ -32,7 +31,7 @@ pub struct Card {
 }
 
 // A fresh card of an edition: settings, loaded tables, wave tables and card as after a reset.
-#[tactic(auto, unfolding(crate::specs::Reset::tables_reset, crate::specs::Reset::waves_reset))]
+#[tactic(auto, using(crate::proofs::Resets::all_filled), unfolding(crate::specs::Reset::tables_reset, crate::specs::Reset::waves_reset))]
 pub fn fresh(
     settings: &mut [u16; 16960],
     tables: &mut [u16; 512],
@@ -42,8 +41,8 @@ pub fn fresh(
     ensures { LeavesWhole (fresh_of edition settings.old tables.old) result settings.new tables.new × (waves.new ≡ waves_reset waves.old) }
 {
     reset_settings(settings);
-    slots::fill(tables, 0, 512, 0);
-    slots::fill(waves, 0, 4096, 0);
+    tables.fill(0);
+    waves.fill(0);
     reset_card(edition)
 }
 
@@ -56,8 +55,7 @@ pub fn reset(
 ) -> Card
     ensures { LeavesWhole (reset_of (before card settings.old tables.old)) result settings.new tables.new × (waves.new ≡ waves_reset waves.old) }
 {
-    let edition = card.edition;
-    fresh(settings, tables, waves, edition)
+    fresh(settings, tables, waves, card.edition)
 }
 
 // One tick: every channel moves on by a microsecond, then the event is taken. 0xFE is no event.
@@ -71,27 +69,26 @@ pub fn tick(
 ) -> Card
     ensures { Leaves (tick_with waves.now (before card settings.now tables.old) event) result tables.new }
 {
-    let k = advance(settings, tables, waves, card);
-    receive(settings, tables, k, event)
+    let mut next = card;
+    advance(settings, tables, waves, &mut next);
+    receive(settings, tables, next, event)
 }
 
 // n ticks with no event.
+#[tactic(auto, using(crate::proofs::Ticks::all_done))]
 pub fn run(
     settings: &[u16; 16960],
     tables: &mut [u16; 512],
     waves: &[u16; 4096],
-    card: Card,
+    mut card: Card,
     n: u32,
 ) -> Card
     ensures { Leaves (ticks waves.now n (before card settings.now tables.old)) result tables.new }
 {
-    let mut k = card;
-    let mut i: u32 = 0;
-    while i < n {
-        k = advance(settings, tables, waves, k);
-        i = i + 1;
+    for _ in 0..n {
+        advance(settings, tables, waves, &mut card);
     }
-    k
+    card
 }
 
 // An accepted trigger of a level: its count, every channel's countdown, and the level and event, which show once a channel loads.
@@ -105,197 +102,103 @@ pub fn trigger(
 ) -> Card
     ensures { Leaves (trigger_of (before card settings.now tables.old) level event) result tables.new }
 {
-    let k = count_trigger(strike(settings, tables, card, level), level);
-    show(keep(k, level, event))
+    let struck = count_trigger(strike(settings, tables, card, level), level);
+    show(Card {
+        pending: Cause { level, event },
+        ..struck
+    })
 }
 
 // Channel c, or an empty one where there is none.
 pub fn channel_of(card: Card, c: usize) -> Channel
     ensures { result ≡ channel_of card c }
 {
-    if c < 4 {
-        card.channels[c]
-    } else {
-        no_channel()
-    }
+    card.channels.get(c).copied().unwrap_or_else(no_channel)
 }
 
 // The card with another channel c.
-pub fn with_channel(card: Card, c: usize, ch: Channel) -> Card
+pub fn with_channel(mut card: Card, c: usize, ch: Channel) -> Card
     ensures { result ≡ with_channel card c ch }
 {
-    let mut k = card;
-    if c < 4 {
-        k.channels[c] = ch;
-    }
-    k
+    word::put(&mut card.channels, c, ch);
+    card
 }
 
 // A level's count.
 pub fn count_of(card: Card, level: usize) -> u16
     ensures { result ≡ count_of card level }
 {
-    if level < 32 { card.counts[level] } else { 0 }
+    card.counts.get(level).copied().unwrap_or(0)
 }
 
 // The card with another count of a level.
-pub fn with_count(card: Card, level: usize, n: u16) -> Card
+pub fn with_count(mut card: Card, level: usize, n: u16) -> Card
     ensures { result ≡ with_count card level n }
 {
-    let mut k = card;
-    if level < 32 {
-        k.counts[level] = n;
-    }
-    k
+    word::put(&mut card.counts, level, n);
+    card
 }
 
-// Every channel one microsecond on: all ramp values move, then the outputs are made; a load shows the pending trigger.
-fn advance(
-    settings: &[u16; 16960],
-    tables: &mut [u16; 512],
-    waves: &[u16; 4096],
-    card: Card,
-) -> Card
-    ensures { Leaves (advanced waves.now (before card settings.now tables.old)) result tables.new }
+// Every channel one microsecond on. Each has both its passes in turn, which comes to the first pass of all and then the second of all,
+// since no output looks at another channel's ramp. By number, which each call takes. A load shows the pending trigger.
+fn advance(settings: &[u16; 16960], tables: &mut [u16; 512], waves: &[u16; 4096], card: &mut Card)
+    ensures { Leaves (advanced waves.now (before card.old settings.now tables.old)) card.new tables.new }
 {
-    let edition = card.edition;
-    let a = channel::move_ramp(settings, tables, edition, 0, card.channels[0]);
-    let b = channel::move_ramp(settings, tables, edition, 1, card.channels[1]);
-    let c = channel::move_ramp(settings, tables, edition, 2, card.channels[2]);
-    let d = channel::move_ramp(settings, tables, edition, 3, card.channels[3]);
-    let counts = card.counts;
-    let active = card.active;
-    let pending = card.pending;
-    show(Card {
-        edition: edition,
-        channels: [
-            output_made(waves, 0, a),
-            output_made(waves, 1, b),
-            output_made(waves, 2, c),
-            output_made(waves, 3, d),
-        ],
-        counts: counts,
-        active: active,
-        pending: pending,
-    })
-}
-
-// A channel after the second pass, which has nothing to do where no sample was given: nine times in ten.
-#[tactic(auto, unfolding(channel::specs::Signal::make_of))]
-fn output_made(waves: &[u16; 4096], c: u16, t: Ticked) -> Channel
-    ensures { result ≡ sounded waves.now c t.channel t.gave }
-{
-    let gave = t.gave;
-    match gave {
-        Gave::NoSample => t.channel,
-        Gave::OfRamp(_, _) => channel::make_output(waves, c, t),
-        Gave::OfFreeRun => channel::make_output(waves, c, t),
+    for c in 0..4 {
+        let t = channel::move_ramp(settings, tables, card.edition, c as u16, card.channels[c]);
+        card.channels[c] = channel::make_output(waves, c as u16, t);
     }
+    *card = show(*card);
 }
 
 // Every channel's countdown is set anew for a level.
-fn strike(settings: &[u16; 16960], tables: &mut [u16; 512], card: Card, level: u16) -> Card
+fn strike(settings: &[u16; 16960], tables: &mut [u16; 512], mut card: Card, level: u16) -> Card
     ensures { LeavesAll (struck (before card settings.now tables.old) level) card result tables.new }
 {
-    let a = channel::trigger(settings, tables, 0, card.channels[0], level);
-    let b = channel::trigger(settings, tables, 1, card.channels[1], level);
-    let c = channel::trigger(settings, tables, 2, card.channels[2], level);
-    let d = channel::trigger(settings, tables, 3, card.channels[3], level);
-    let counts = card.counts;
-    let active = card.active;
-    let pending = card.pending;
-    let edition = card.edition;
-    Card {
-        edition: edition,
-        channels: [a, b, c, d],
-        counts: counts,
-        active: active,
-        pending: pending,
+    for c in 0..4 {
+        card.channels[c] = channel::trigger(settings, tables, c as u16, card.channels[c], level);
     }
-}
-
-// A trigger's level and event, pending in the place of those before.
-fn keep(card: Card, level: u16, event: u16) -> Card
-    ensures { result ≡ keeping card (cause level event) }
-{
-    let channels = card.channels;
-    let counts = card.counts;
-    let active = card.active;
-    let edition = card.edition;
-    Card {
-        edition: edition,
-        channels: channels,
-        counts: counts,
-        active: active,
-        pending: Cause {
-            level: level,
-            event: event,
-        },
-    }
+    card
 }
 
 // The pending cause is shown if some channel has just loaded.
 fn show(card: Card) -> Card
     ensures { result ≡ showing card }
 {
-    let loaded = some_loaded(card);
-    let channels = card.channels;
-    let counts = card.counts;
-    let active = card.active;
-    let pending = card.pending;
-    let edition = card.edition;
-    Card {
-        edition: edition,
-        channels: channels,
-        counts: counts,
-        active: either(loaded, pending, active),
-        pending: pending,
+    if some_loaded(card) {
+        Card {
+            active: card.pending,
+            ..card
+        }
+    } else {
+        card
     }
-}
-
-// The first of two, or the second.
-fn either(first: bool, a: Cause, b: Cause) -> Cause
-    ensures { result ≡ cond first a b }
-{
-    if first { a } else { b }
 }
 
 // Whether the trigger or the tick that has just moved the card has loaded some channel.
 fn some_loaded(card: Card) -> bool
     ensures { result ≡ some_loaded card }
 {
-    if channel::just_loaded(card.channels[0]) {
-        return true;
-    }
-    if channel::just_loaded(card.channels[1]) {
-        return true;
-    }
-    if channel::just_loaded(card.channels[2]) {
-        return true;
-    }
-    channel::just_loaded(card.channels[3])
+    card.channels.iter().any(|ch| channel::just_loaded(*ch))
 }
 
 // One more trigger of a level.
 fn count_trigger(card: Card, level: u16) -> Card
     ensures { result ≡ counted card level }
 {
-    let l = level as usize;
+    let l = usize::from(level);
     with_count(card, l, word::grow(count_of(card, l)))
 }
 
 // The level of the accepted trigger that an event is, if it is one.
 #[tactic(auto, unfolding(crate::specs::Trigger::accepted_of))]
-fn accepted(settings: &[u16; 16960], event: u16) -> Holder
+fn accepted(settings: &[u16; 16960], event: u16) -> Option<u16>
     ensures { result ≡ accepted_of settings.now event }
 {
-    if event == 0xFE {
-        return Holder::Nobody;
-    }
-    if word::get(settings, 0x4200) == 1 {
-        slots::held_by(settings, event)
+    if event == 0xFE || word::get(settings, map::CLOCK_ENABLE) != 1 {
+        None
     } else {
-        Holder::Nobody
+        slots::held_by(settings, event)
     }
 }
 
@@ -303,21 +206,20 @@ fn accepted(settings: &[u16; 16960], event: u16) -> Holder
 fn receive(settings: &[u16; 16960], tables: &mut [u16; 512], card: Card, event: u16) -> Card
     ensures { Leaves (event_of (before card settings.now tables.old) event) result tables.new }
 {
-    match accepted(settings, event) {
-        Holder::Level(level) => trigger(settings, tables, card, level, event),
-        Holder::Nobody => card,
+    if let Some(level) = accepted(settings, event) {
+        trigger(settings, tables, card, level, event)
+    } else {
+        card
     }
 }
 
-#[tactic(auto, unfolding(crate::specs::Reset::settings_reset))]
 fn reset_settings(settings: &mut [u16; 16960])
     ensures { settings.new ≡ settings_reset settings.old }
 {
-    slots::fill(settings, 0, 16960, 0);
-    slots::fill(settings, 0x0860, 32, 0x0100);
-    slots::fill(settings, 0x1860, 32, 0x0100);
-    slots::fill(settings, 0x2860, 32, 0x0100);
-    slots::fill(settings, 0x3860, 32, 0x0100);
+    settings.fill(0);
+    for c in 0..4 {
+        slots::fill(settings, c * map::BLOCK + map::SCALES, 32, 0x0100);
+    }
     slots::erase(settings)
 }
 
@@ -326,20 +228,12 @@ fn no_channel() -> Channel
     ensures { result ≡ no_channel }
 {
     let ch = channel::fresh();
-    let tone = ch.loaded.tone;
-    let shown = ch.shown;
-    let signal = ch.signal;
     Channel {
-        phase: Phase::Rest,
-        level: 0,
         loaded: Loaded {
-            table: 0,
             scale: 0,
-            offset: 0,
-            tone: tone,
+            ..ch.loaded
         },
-        shown: shown,
-        signal: signal,
+        ..ch
     }
 }
 
@@ -348,18 +242,15 @@ fn no_channel() -> Channel
 fn reset_card(edition: Edition) -> Card
     ensures { result ≡ card_reset edition }
 {
-    let ch = channel::fresh();
+    let none = Cause {
+        level: 0,
+        event: 0xFE,
+    };
     Card {
-        edition: edition,
-        channels: [ch, ch, ch, ch],
+        edition,
+        channels: [channel::fresh(); 4],
         counts: [0; 32],
-        active: Cause {
-            level: 0,
-            event: 0xFE,
-        },
-        pending: Cause {
-            level: 0,
-            event: 0xFE,
-        },
+        active: none,
+        pending: none,
     }
 }

@@ -1,11 +1,9 @@
 -- 'One tick, one microsecond': a ramp on its way through its table, whose first word is at `first` of the lent words. What a ramp moves
 -- is its amplitude; what becomes of it is in `specs/Signal`.
-use Rattle.std.specs.Prelude.{ℕ, ◌+◌, ◌-◌, ◌/◌, ◌%◌, Bool, false, cond, ◌&&◌, List, ◌==◌, nat_lt}
+use Rattle.std.specs.Prelude.{ℕ, ◌+◌, ◌-◌, ◌/◌, ◌%◌, Bool, false, cond, ◌&&◌, List, ◌==◌, nat_lt, Option, Some, None}
 use Rattle.word.specs.Word.{grown}
 use Rattle.word.specs.Table.{value_at, step_at, is_end}
 use Rattle.sum.specs.declared.Edition.{Edition}
-use Rattle.sum.specs.declared.Sum.{Sum}
-use Rattle.sum.specs.declared.Sum.TheVariants.{Word, Overflow}
 use Rattle.sum.specs.Sample.{sample_of}
 use Rattle.channel.specs.declared.Place.{Place}
 use Rattle.channel.specs.declared.Shown.{Shown}
@@ -29,19 +27,19 @@ unfoldable pub next : List ℕ → ℕ → Place → Place
 next w first p = cond (nat_lt 1 p.left.0) (place p.segment (p.left.0 - 1)) (enter w first (grown p.segment))
 
 -- 'in segment n with m samples left', rounded as the card's edition has it; at the end point f is that V
-unfoldable pub sample_at : Edition → List ℕ → ℕ → Loaded → Place → Sum
+unfoldable pub sample_at : Edition → List ℕ → ℕ → Loaded → Place → Option ℕ
 sample_at edition w first l p =
     cond (p.left.0 == 0)
     (sample_of edition l.scale (value_at w first p.segment) (value_at w first p.segment) 0 0 l.offset)
     (sample_of edition l.scale (value_at w first p.segment) (value_at w first (p.segment + 1)) (step_at w first p.segment) p.left.0 l.offset)
 
 -- a sum in range, or where it overflows what was held just before
-abbrev pub hold : Sum → ℕ → ℕ
-hold (Word v) before = v
-hold Overflow before = before
+abbrev pub hold : Option ℕ → ℕ → ℕ
+hold (Some v) before = v
+hold None before = before
 
 -- 'the ramp's sample becomes an amplitude', 'an amplitude overflow keeps the previous amplitude'; 'A33 and A34 show the last sample's n and m'
-abbrev pub put : Sum → Place → Shown → Shown
+abbrev pub put : Option ℕ → Place → Shown → Shown
 put x p s = record { amplitude = hold x s.amplitude; place = p }
 
 abbrev pub give : Edition → List ℕ → ℕ → Loaded → Place → Shown → Shown

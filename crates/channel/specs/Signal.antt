@@ -1,8 +1,6 @@
 -- Document 02, Two: what a sample makes of the output, of A39 and of the counter. In plain mode this is document 01's rule.
-use Rattle.std.specs.Prelude.{ℕ, ◌+◌, ◌%◌, Bool, true, false, cond, List}
+use Rattle.std.specs.Prelude.{ℕ, ◌+◌, ◌%◌, Bool, true, false, cond, List, Option, Some, None}
 use Rattle.word.specs.Word.{grown}
-use Rattle.sum.specs.declared.Sum.{Sum}
-use Rattle.sum.specs.declared.Sum.TheVariants.{Word, Overflow}
 use Rattle.wave.specs.Sine.{sine_of}
 use Rattle.channel.specs.declared.Tone.{Tone}
 use Rattle.channel.specs.declared.Signal.{Signal}
@@ -12,9 +10,9 @@ use Rattle.channel.specs.Ramp.{is_sine}
 
 -- 'outside −32768..32767 the output stays and A39 grows by 1'; `over`: the sample's amplitude was out of range, which counts too, but
 -- 'at most 1 a sample'
-abbrev pub signal_after : Sum → Bool → ℕ → Signal → Signal
-signal_after (Word v) over n g = record { output = v; overflow = cond over (grown g.overflow) g.overflow; counter = n }
-signal_after Overflow over n g = record { output = g.output; overflow = grown g.overflow; counter = n }
+abbrev pub signal_after : Option ℕ → Bool → ℕ → Signal → Signal
+signal_after (Some v) over n g = record { output = v; overflow = cond over (grown g.overflow) g.overflow; counter = n }
+signal_after None over n g = record { output = g.output; overflow = grown g.overflow; counter = n }
 
 -- 'a 16-bit counter starts at the phase on sample 0 and grows by the frequency each later sample, going round at 65,536'
 abbrev pub counter_next : Tone → ℕ → ℕ
@@ -27,9 +25,9 @@ counter_at isFirst t n = cond isFirst t.phase (counter_next t n)
 abbrev pub sine_after : List ℕ → ℕ → ℕ → ℕ → Bool → Signal → Signal
 sine_after w c n a over g = signal_after (sine_of w c n a) over n g
 
-abbrev pub overflows : Sum → Bool
-overflows (Word v) = false
-overflows Overflow = true
+abbrev pub overflows : Option ℕ → Bool
+overflows (Some v) = false
+overflows None = true
 
 -- the signal of channel c, once its ramp has moved to the amplitude a and given this sample
 unfoldable pub make_of : List ℕ → ℕ → Gave → Tone → ℕ → Signal → Signal

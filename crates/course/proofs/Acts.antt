@@ -1,6 +1,6 @@
 -- What one act leaves as it was. A tick changes neither the level nor, but for a load, what is loaded; a tick at rest changes nothing;
 -- what is no tick leaves phase, level, loaded words, counter and the channel's table. Assumes nothing.
-use mathlib.Core.Path.{◌≡◌, refl, ap, ◌∙◌}
+use mathlib.Core.Path.{◌≡◌, refl, ◌∙◌}
 use mathlib.Core.Bool.{Bool, true, false, cond}
 use mathlib.Core.List.{List, [], ◌∷◌}
 use Prim.Native.Nat.{ℕ, zero, suc, ◌+◌, ◌*◌, ◌-◌, ◌≤◌, ◌<◌}
@@ -8,11 +8,10 @@ use native.Mathlib.Omega.{arith}
 use lib.Dec.{eqb}
 use lib.ListN.{length}
 use borrow.Author.Tests.{eqb-true, eq-eqb}
-use Rattle.word.specs.Copy.{copied}
 use Rattle.sum.specs.declared.Edition.{Edition}
 use Rattle.map.specs.Addresses.{enable_at}
 use Rattle.channel.specs.declared.Phase.{Phase}
-use Rattle.channel.specs.declared.Phase.TheVariants.{Rest, Counting, Running, FreeRunning}
+use Rattle.channel.specs.declared.Phase.TheVariants.{Rest, Counting}
 use Rattle.channel.specs.declared.Ramp.{Ramp}
 use Rattle.channel.specs.declared.Shown.{Shown}
 use Rattle.channel.specs.declared.Gave.{Gave}
@@ -20,7 +19,7 @@ use Rattle.channel.specs.declared.Channel.{Channel}
 use Rattle.channel.specs.Signal.{make_of}
 use Rattle.channel.specs.Channel.{Side, Move, side, move, word, with, first_of, lead, loads_at, runs_of, load, start, count_to, move_at, tick_of, triggered}
 use Rattle.course.specs.Points.{SameTable}
-use Rattle.course.specs.Course.{Act, Tick, Elsewhere, Output, Clear, elsewhere, written, act, run, ticks_in, until, held_on, waves_on}
+use Rattle.course.specs.Course.{Act, Tick, Elsewhere, Output, elsewhere, written, act, run, ticks_in, until, held_on, waves_on}
 use Rattle.course.proofs.Copies.{choose, copied_length, copied_in, copied_same, tick_length, tick_out, trigger_length, trigger_out}
 
 -- ---- a tick
@@ -43,10 +42,8 @@ module _ (ed : Edition) (s l : List ℕ) (c : ℕ) (ch : Channel) where
 
   move_level : (f : Phase) → SameLevel (move_at ed f s l c ch)
   unfolding move_at count_to
-  move_level Rest = refl
   move_level (Counting n older) = choose SameLevel (eqb (n.0 - 1) 0) _ _ start_level (choose SameLevel (loads_at (n.0 - 1)) _ _ load_level refl)
-  move_level (Running w) = refl
-  move_level (FreeRunning w) = refl
+  move_level _ = refl
 
   pub tick_level : (w : List ℕ) → (tick_of ed s w l c ch).channel.level ≡ ch.level
   unfolding tick_of
@@ -76,10 +73,8 @@ module _ (ed : Edition) (s l : List ℕ) (c : ℕ) (ch : Channel) where
 
   move_kept : (f : Phase) → ((n : ℕ) (older : Ramp) → f ≡ Counting (record { 0 = n }) older → n ≡ 11 → ⊥) → KeptIn (move_at ed f s l c ch)
   unfolding move_at
-  move_kept Rest h = record { loaded = refl; tables = refl }
   move_kept (Counting n older) h = count_kept n.0 older (h n.0 older refl)
-  move_kept (Running w) h = record { loaded = refl; tables = refl }
-  move_kept (FreeRunning w) h = record { loaded = refl; tables = refl }
+  move_kept _ h = record { loaded = refl; tables = refl }
 
   -- unless the countdown stands at 11, a tick changes neither what is loaded nor the tables
   pub tick_kept : (w : List ℕ) → ((n : ℕ) (older : Ramp) → ch.phase ≡ Counting (record { 0 = n }) older → n ≡ 11 → ⊥) → Kept (tick_of ed s w l c ch)
@@ -94,20 +89,12 @@ apart b c i o h f g = o (omega arith)
 
 pub elsewhere_length : (c : ℕ) (l l' : List ℕ) → length (elsewhere c l l') ≡ length l
 unfolding elsewhere
-elsewhere_length c l l' = go (eqb (length l') (length l)) refl
-  where
-    go : (b : Bool) → eqb (length l') (length l) ≡ b → length (cond b (copied 128 l (first_of c) l' (first_of c)) l) ≡ length l
-    go true e = copied_length 128 l (first_of c) l' (first_of c) ∙ eqb-true (length l') (length l) e
-    go false e = refl
+elsewhere_length c l l' = grind (arith, copied_length, eqb-true)
 
 -- the channel's own words stay
 pub elsewhere_in : (c : ℕ) (l l' : List ℕ) → 128 * c + 128 ≤ length l → SameTable (elsewhere c l l') (first_of c) l (first_of c)
 unfolding elsewhere
-elsewhere_in c l l' r i h = go (eqb (length l') (length l)) refl
-  where
-    go : (b : Bool) → eqb (length l') (length l) ≡ b → word (cond b (copied 128 l (first_of c) l' (first_of c)) l) (first_of c + i) ≡ word l (first_of c + i)
-    go true e = copied_in 128 l (first_of c) l' (first_of c) i h (omega (arith, eqb-true (length l') (length l) e))
-    go false e = refl
+elsewhere_in c l l' r i h = grind (arith, copied_in, eqb-true)
 
 -- a list that has as many words, and the channel's own as they were, is reached
 pub elsewhere_is : (c : ℕ) (l l' : List ℕ) → length l' ≡ length l → SameTable l' (first_of c) l (first_of c) → elsewhere c l l' ≡ l'
@@ -131,8 +118,7 @@ module _ (s l : List ℕ) (b c : ℕ) (ch : Channel) (other : b ≡ c → ⊥) w
 pub act_length : (ed : Edition) (c : ℕ) (x : Side) (y : Act) → length (act ed c x y).tables ≡ length x.tables
 act_length ed c x (Tick s w) = tick_length s x.tables c x.channel ed w
 act_length ed c x (Elsewhere l) = elsewhere_length c x.tables l
-act_length ed c x (Output v) = refl
-act_length ed c x Clear = refl
+act_length ed c x _ = refl
 
 pub run_length : (ed : Edition) (c : ℕ) (x : Side) (ys : List Act) → length (run ed c x ys).tables ≡ length x.tables
 run_length ed c x [] = refl
@@ -143,7 +129,7 @@ run_length ed c x (y ∷ ys) = run_length ed c (act ed c x y) ys ∙ act_length 
 module _ (v : ℕ) (ch : Channel) where
   pub written_phase : (written v ch).phase ≡ ch.phase
   unfolding written
-  written_phase = choose (λ (x : Channel). x.phase ≡ ch.phase) (runs_of ch) _ _ refl refl
+  written_phase = grind arith
 
   pub written_level : (written v ch).level ≡ ch.level
   unfolding written
@@ -169,19 +155,17 @@ untimed_table ed c x [] e h i f = refl
 untimed_table ed c x (Tick s w ∷ ys) e h i f = absurd (omega arith)
 untimed_table ed c x (Elsewhere l ∷ ys) e h i f =
     untimed_table ed c (act ed c x (Elsewhere l)) ys e (rw (elsewhere_length c x.tables l) h) i f ∙ elsewhere_in c x.tables l h i f
-untimed_table ed c x (Output v ∷ ys) e h i f = untimed_table ed c (act ed c x (Output v)) ys e h i f
-untimed_table ed c x (Clear ∷ ys) e h i f = untimed_table ed c (act ed c x Clear) ys e h i f
+untimed_table ed c x (y ∷ ys) e h i f = untimed_table ed c (act ed c x y) ys e h i f
 
 -- and its ramp, copy and pending level
 pub untimed_ramp : (ed : Edition) (c : ℕ) (x : Side) (ys : List Act) → ticks_in ys ≡ 0
     → ((run ed c x ys).channel.phase ≡ x.channel.phase) × ((run ed c x ys).channel.loaded ≡ x.channel.loaded) × ((run ed c x ys).channel.level ≡ x.channel.level)
 untimed_ramp ed c x [] e = (refl, refl, refl)
 untimed_ramp ed c x (Tick s w ∷ ys) e = absurd (omega arith)
-untimed_ramp ed c x (Elsewhere l ∷ ys) e = untimed_ramp ed c (act ed c x (Elsewhere l)) ys e
 untimed_ramp ed c x (Output v ∷ ys) e =
     let r = untimed_ramp ed c (act ed c x (Output v)) ys e in
     (r.0 ∙ written_phase v x.channel, r.1 ∙ written_loaded v x.channel, r.2 ∙ written_level v x.channel)
-untimed_ramp ed c x (Clear ∷ ys) e = untimed_ramp ed c (act ed c x Clear) ys e
+untimed_ramp ed c x (y ∷ ys) e = untimed_ramp ed c (act ed c x y) ys e
 
 -- ---- the acts before a tick, and the settings held on it
 
@@ -189,25 +173,19 @@ untimed_ramp ed c x (Clear ∷ ys) e = untimed_ramp ed c (act ed c x Clear) ys e
 pub before_all : (n : ℕ) (xs : List Act) → ticks_in xs ≤ n → until (suc n) xs ≡ xs
 before_all n [] h = refl
 before_all zero (Tick s w ∷ xs) h = absurd (omega arith)
-before_all (suc n) (Tick s w ∷ xs) h = ap (λ (ys : List Act). Tick s w ∷ ys) (before_all n xs (omega arith))
-before_all n (Elsewhere l ∷ xs) h = ap (λ (ys : List Act). Elsewhere l ∷ ys) (before_all n xs h)
-before_all n (Output v ∷ xs) h = ap (λ (ys : List Act). Output v ∷ ys) (before_all n xs h)
-before_all n (Clear ∷ xs) h = ap (λ (ys : List Act). Clear ∷ ys) (before_all n xs h)
+before_all (suc n) (Tick s w ∷ xs) h = cc (before_all n xs (omega arith))
+before_all n (y ∷ xs) h = cc (before_all n xs h)
 
 -- and the settings are those of the tick that comes after them
 pub held_next : (s z : List ℕ) (n : ℕ) (xs : List Act) → ticks_in xs ≤ n → held_on s z (suc n) xs ≡ z
 held_next s z n [] h = refl
 held_next s z zero (Tick u w ∷ xs) h = absurd (omega arith)
 held_next s z (suc n) (Tick u w ∷ xs) h = held_next s z n xs (omega arith)
-held_next s z n (Elsewhere l ∷ xs) h = held_next s z n xs h
-held_next s z n (Output v ∷ xs) h = held_next s z n xs h
-held_next s z n (Clear ∷ xs) h = held_next s z n xs h
+held_next s z n (y ∷ xs) h = held_next s z n xs h
 
 -- and so are the wave tables
 pub waves_next : (z : List ℕ) (n : ℕ) (xs : List Act) → ticks_in xs ≤ n → waves_on z (suc n) xs ≡ z
 waves_next z n [] h = refl
 waves_next z zero (Tick u w ∷ xs) h = absurd (omega arith)
 waves_next z (suc n) (Tick u w ∷ xs) h = waves_next z n xs (omega arith)
-waves_next z n (Elsewhere l ∷ xs) h = waves_next z n xs h
-waves_next z n (Output v ∷ xs) h = waves_next z n xs h
-waves_next z n (Clear ∷ xs) h = waves_next z n xs h
+waves_next z n (y ∷ xs) h = waves_next z n xs h

@@ -7,7 +7,7 @@ use native.Mathlib.Omega.{arith}
 use native.Mathlib.Nat.{zero-add, suc-add}
 use Rattle.sum.specs.declared.Edition.{Edition}
 use Rattle.channel.specs.Channel.{Side}
-use Rattle.course.specs.Course.{Act, Tick, Elsewhere, Output, Clear, act, run, ticks_in, until, held_on, waves_on}
+use Rattle.course.specs.Course.{Act, Tick, act, run, ticks_in, until, held_on, waves_on}
 
 pub run_append : (ed : Edition) (c : ℕ) (x : Side) (xs ys : List Act) → run ed c x (xs ++ ys) ≡ run ed c (run ed c x xs) ys
 run_append ed c x [] ys = refl
@@ -16,9 +16,7 @@ run_append ed c x (y ∷ xs) ys = run_append ed c (act ed c x y) xs ys
 pub ticks_append : (xs ys : List Act) → ticks_in (xs ++ ys) ≡ ticks_in xs + ticks_in ys
 ticks_append [] ys = omega arith
 ticks_append (Tick s w ∷ xs) ys = ap suc (ticks_append xs ys) ∙ omega arith
-ticks_append (Elsewhere l ∷ xs) ys = ticks_append xs ys
-ticks_append (Output v ∷ xs) ys = ticks_append xs ys
-ticks_append (Clear ∷ xs) ys = ticks_append xs ys
+ticks_append (y ∷ xs) ys = ticks_append xs ys
 
 -- ---- a tick of the first list
 
@@ -26,45 +24,33 @@ pub held_first : (s z : List ℕ) (n : ℕ) (xs ys : List Act) → suc n ≤ tic
 held_first s z n [] ys h = absurd (omega arith)
 held_first s z zero (Tick u w ∷ xs) ys h = refl
 held_first s z (suc n) (Tick u w ∷ xs) ys h = held_first s z n xs ys (omega arith)
-held_first s z n (Elsewhere l ∷ xs) ys h = held_first s z n xs ys h
-held_first s z n (Output v ∷ xs) ys h = held_first s z n xs ys h
-held_first s z n (Clear ∷ xs) ys h = held_first s z n xs ys h
+held_first s z n (y ∷ xs) ys h = held_first s z n xs ys h
 
 pub waves_first : (z : List ℕ) (n : ℕ) (xs ys : List Act) → suc n ≤ ticks_in xs → waves_on z (suc n) (xs ++ ys) ≡ waves_on z (suc n) xs
 waves_first z n [] ys h = absurd (omega arith)
 waves_first z zero (Tick u w ∷ xs) ys h = refl
 waves_first z (suc n) (Tick u w ∷ xs) ys h = waves_first z n xs ys (omega arith)
-waves_first z n (Elsewhere l ∷ xs) ys h = waves_first z n xs ys h
-waves_first z n (Output v ∷ xs) ys h = waves_first z n xs ys h
-waves_first z n (Clear ∷ xs) ys h = waves_first z n xs ys h
+waves_first z n (y ∷ xs) ys h = waves_first z n xs ys h
 
 pub before_first : (n : ℕ) (xs ys : List Act) → suc n ≤ ticks_in xs → until (suc n) (xs ++ ys) ≡ until (suc n) xs
 before_first n [] ys h = absurd (omega arith)
 before_first zero (Tick u w ∷ xs) ys h = refl
-before_first (suc n) (Tick u w ∷ xs) ys h = ap (λ (zs : List Act). Tick u w ∷ zs) (before_first n xs ys (omega arith))
-before_first n (Elsewhere l ∷ xs) ys h = ap (λ (zs : List Act). Elsewhere l ∷ zs) (before_first n xs ys h)
-before_first n (Output v ∷ xs) ys h = ap (λ (zs : List Act). Output v ∷ zs) (before_first n xs ys h)
-before_first n (Clear ∷ xs) ys h = ap (λ (zs : List Act). Clear ∷ zs) (before_first n xs ys h)
+before_first (suc n) (Tick u w ∷ xs) ys h = cc (before_first n xs ys (omega arith))
+before_first n (y ∷ xs) ys h = cc (before_first n xs ys h)
 
 -- ---- a tick of the second
 
 pub held_later : (s z : List ℕ) (n : ℕ) (xs ys : List Act) → held_on s z (suc (ticks_in xs + n)) (xs ++ ys) ≡ held_on s z (suc n) ys
 held_later s z n [] ys = rw zero-add
 held_later s z n (Tick u w ∷ xs) ys = rw suc-add (held_later s z n xs ys)
-held_later s z n (Elsewhere l ∷ xs) ys = held_later s z n xs ys
-held_later s z n (Output v ∷ xs) ys = held_later s z n xs ys
-held_later s z n (Clear ∷ xs) ys = held_later s z n xs ys
+held_later s z n (y ∷ xs) ys = held_later s z n xs ys
 
 pub waves_later : (z : List ℕ) (n : ℕ) (xs ys : List Act) → waves_on z (suc (ticks_in xs + n)) (xs ++ ys) ≡ waves_on z (suc n) ys
 waves_later z n [] ys = rw zero-add
 waves_later z n (Tick u w ∷ xs) ys = rw suc-add (waves_later z n xs ys)
-waves_later z n (Elsewhere l ∷ xs) ys = waves_later z n xs ys
-waves_later z n (Output v ∷ xs) ys = waves_later z n xs ys
-waves_later z n (Clear ∷ xs) ys = waves_later z n xs ys
+waves_later z n (y ∷ xs) ys = waves_later z n xs ys
 
 pub before_later : (n : ℕ) (xs ys : List Act) → until (suc (ticks_in xs + n)) (xs ++ ys) ≡ xs ++ until (suc n) ys
 before_later n [] ys = rw zero-add
-before_later n (Tick u w ∷ xs) ys = rw suc-add (ap (λ (zs : List Act). Tick u w ∷ zs) (before_later n xs ys))
-before_later n (Elsewhere l ∷ xs) ys = ap (λ (zs : List Act). Elsewhere l ∷ zs) (before_later n xs ys)
-before_later n (Output v ∷ xs) ys = ap (λ (zs : List Act). Output v ∷ zs) (before_later n xs ys)
-before_later n (Clear ∷ xs) ys = ap (λ (zs : List Act). Clear ∷ zs) (before_later n xs ys)
+before_later n (Tick u w ∷ xs) ys = rw suc-add (cc (before_later n xs ys))
+before_later n (y ∷ xs) ys = cc (before_later n xs ys)

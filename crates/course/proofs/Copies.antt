@@ -9,19 +9,19 @@ use lib.Dec.{eqb}
 use lib.ListN.{length, set, length-set}
 use lib.Seq.{set-get_or, get_or-set_same, get_or-set_other}
 use borrow.Author.Tests.{eqb-true, eqb-false}
+use Rattle.std.proofs.lemmas.Bool.{cond_both}
 use Rattle.word.specs.Copy.{copied}
 use Rattle.sum.specs.declared.Edition.{Edition}
 use Rattle.map.specs.Addresses.{table_at, ramp_map_at, enable_at}
 use Rattle.channel.specs.declared.Phase.{Phase}
-use Rattle.channel.specs.declared.Phase.TheVariants.{Rest, Counting, Running, FreeRunning}
+use Rattle.channel.specs.declared.Phase.TheVariants.{Counting}
 use Rattle.channel.specs.declared.Ramp.{Ramp}
 use Rattle.channel.specs.declared.Channel.{Channel}
 use Rattle.channel.specs.Channel.{Side, Move, word, first_of, loads_at, load, start, count_to, move_at, tick_of, countdown, triggered}
 
 -- what is so on both sides of a test
 pub choose : {A : Type 0} (P : A → Type 0) (b : Bool) (x y : A) → P x → P y → P (cond b x y)
-choose P true x y p q = p
-choose P false x y p q = q
+choose P b x y p q = cond_both b x y P (λ e. p) (λ e. q)
 
 -- ---- n words copied
 
@@ -79,10 +79,8 @@ module _ (s l : List ℕ) (c : ℕ) (ch : Channel) where
 
     move_tables : (ed : Edition) (f : Phase) → ((from : ℕ) → P (copied 128 s from l (first_of c))) → P (move_at ed f s l c ch).tables
     unfolding move_at
-    move_tables ed Rest q = p
     move_tables ed (Counting n older) q = count_tables ed (n.0 - 1) older q
-    move_tables ed (Running w) q = p
-    move_tables ed (FreeRunning w) q = p
+    move_tables ed _ q = p
 
     tick_tables : (ed : Edition) (w : List ℕ) → ((from : ℕ) → P (copied 128 s from l (first_of c))) → P (tick_of ed s w l c ch).tables
     unfolding tick_of

@@ -30,7 +30,6 @@ use Rattle.course.proofs.Copies.{copied_in}
 use Rattle.course.proofs.Acts.{tick_rest, elsewhere_in, written_phase, written_level, written_loaded, written_counter, act_length}
 use Rattle.course.proofs.Tables.{same_enter, same_next, same_sample}
 use Rattle.course.proofs.Walk.{placed, place_first, place_step, place_more, place_last}
-use Rattle.course.proofs.Points.{differ}
 use Rattle.course.proofs.Moves.{move_start, move_give, free_give, tick_made, tick_still, tick_load, tick_off, tick_wait, tick_free_wait, tick_count}
 use Rattle.course.proofs.Signals.{Counted, signal_counted, first_made, next_made, free_made}
 
@@ -231,7 +230,7 @@ module _ (ed : Edition) (c v : ℕ) (w : List ℕ) (a d : ℕ) where
   -- after the end no sample is given, but for free run
   no_more : (t k : ℕ) → free_for w c v ≡ false → d + 10 * T ≤ t → Plays w c v k → t + 1 ≡ d + 10 * k → ⊥
   no_more t k e h (inl g) q = omega arith
-  no_more t k e h (inr g) q = differ (free_for w c v) g e
+  no_more t k e h (inr g) q = cc
 
   pub ticked : (t : ℕ) (z u : List ℕ) (x : Side) → 128 * c + 128 ≤ length x.tables → (t + 11 ≡ d → z ≡ w) → (t + 1 ≡ d → word z (enable_at c) ≡ a)
       → Course t x → Ticked t z u x
@@ -307,18 +306,18 @@ module _ (ed : Edition) (c v : ℕ) (w : List ℕ) (a d : ℕ) where
   kept t x x' i p q j s y = go y
     where
       same : Held c v w x → Held c v w x'
-      same h = record { loaded = p ∙ h.loaded; table = λ n g. s n g ∙ h.table n g }
+      same h = record { loaded = cc; table = λ n g. s n g ∙ h.table n g }
 
       as_counted : (k : ℕ) → Counted ed c v w k x.channel.signal → Counted ed c v w k x'.channel.signal
       as_counted k n e = j ∙ n e
 
       go : Course t x → Course t x'
-      go (waits n o u b e f) = waits n o u b (i ∙ e) (q ∙ f)
-      go (starts n u b g e f) = starts n u b g (same e) (q ∙ f)
-      go (runs k r y u b g h e n f) = runs k r y u b g h (same e) (as_counted k n) (q ∙ f)
-      go (frees k r y m u b g h e n f) = frees k r y m u b g h (same e) (as_counted k n) (q ∙ f)
-      go (rests y m h e f) = rests y m h (same e) (q ∙ f)
-      go (off y h e f) = off y h (same e) (q ∙ f)
+      go (waits n o u b e f) = waits n o u b (cc) cc
+      go (starts n u b g e f) = starts n u b g (same e) cc
+      go (runs k r y u b g h e n f) = runs k r y u b g h (same e) (as_counted k n) cc
+      go (frees k r y m u b g h e n f) = frees k r y m u b g h (same e) (as_counted k n) cc
+      go (rests y m h e f) = rests y m h (same e) cc
+      go (off y h e f) = off y h (same e) cc
 
   pub beside_elsewhere : (t : ℕ) (x : Side) (l : List ℕ) → 128 * c + 128 ≤ length x.tables → Course t x → Course t (act ed c x (Elsewhere l))
   beside_elsewhere t x l m y = kept t x (act ed c x (Elsewhere l)) refl refl refl refl (elsewhere_in c x.tables l m) y

@@ -12,7 +12,7 @@ use Rattle.channel.specs.declared.Place.{Place}
 use Rattle.channel.specs.declared.Shown.{Shown}
 use Rattle.channel.specs.declared.Loaded.{Loaded}
 use Rattle.channel.specs.declared.Ramp.{Ramp}
-use Rattle.channel.specs.declared.Ramp.TheVariants.{Still, Going, Free}
+use Rattle.channel.specs.declared.Ramp.TheVariants.{Going, Free}
 use Rattle.channel.specs.declared.Phase.{Phase}
 use Rattle.channel.specs.declared.Phase.TheVariants.{Rest, Counting, Running, FreeRunning}
 use Rattle.channel.specs.declared.Channel.{Channel}
@@ -27,9 +27,8 @@ module _ (ed ed' : Edition) (l : List ℕ) (first : ℕ) (ld : Loaded) (h : Sums
 
   advance_alike : (r : Ramp) (s : Shown) → advance ed l first ld r s ≡ advance ed' l first ld r s
   unfolding advance
-  advance_alike Still s = refl
   advance_alike (Going r) s = rw (given_alike false r.period.0 (next l first r.place) s)
-  advance_alike (Free r) s = refl
+  advance_alike _ s = refl
 
 module _ (ed ed' : Edition) (s l : List ℕ) (c : ℕ) (ch : Channel) (h : SumsAlike ed ed' l (first_of c) ch.loaded) where
   start_alike : start ed s l c ch ≡ start ed' s l c ch

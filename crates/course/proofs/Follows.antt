@@ -21,7 +21,6 @@ use Rattle.course.specs.Course.{Act, Tick, act, run, ticks_in, held_on}
 use Rattle.course.specs.Follows.{total_for, place_for, free_for, Follows, TriggerFollowed}
 use Rattle.course.proofs.Copies.{trigger_length}
 use Rattle.course.proofs.Acts.{run_length, held_next}
-use Rattle.course.proofs.Points.{differ}
 use Rattle.course.proofs.Course.{Held, Course, waits, starts, runs, frees, rests, off, Ahead, Ticked, loads, load_phase, ticked, course_run}
 
 -- a load sets the course, 10 ticks before the start
@@ -107,7 +106,7 @@ module _ (ed : Edition) (s l : List ℕ) (c : ℕ) (ch : Channel) (v : ℕ) (roo
   rest_of y i h x (waits n o q p e f) = absurd (omega arith)
   rest_of y i h x (starts n q p b e f) = absurd (omega arith)
   rest_of y i h x (runs k r t q p b g e n f) = absurd (omega arith)
-  rest_of y i h x (frees k r t o q p b g e n f) = absurd (differ (free_for w c v) o i)
+  rest_of y i h x (frees k r t o q p b g e n f) = absurd cc
   rest_of y i h x (rests t o g e f) = f
   rest_of y i h x (off t g e f) = f
 
@@ -117,7 +116,7 @@ module _ (ed : Edition) (s l : List ℕ) (c : ℕ) (ch : Channel) (v : ℕ) (roo
   free_of y i k j h g u x (starts n q p b e f) = absurd (omega arith)
   free_of y i k j h g u x (runs m r t q p b o e n f) = absurd (omega arith)
   free_of y i k j h g u x (frees m r t o q p b l e n f) = let jr : 10 - j ≡ r = omega arith in rw jr f
-  free_of y i k j h g u x (rests t o m e f) = absurd (differ (free_for w c v) i o)
+  free_of y i k j h g u x (rests t o m e f) = absurd cc
   free_of y i k j h g u x (off t m e f) = absurd (t y)
 
   off_of : (a ≡ 1 → ⊥) → d ≤ ticks_in xs → (x : Side) → Course ed c v w a d (ticks_in xs) x → x.channel.phase ≡ Rest

@@ -1,6 +1,6 @@
 -- One tick of a channel in each phase, as an equation: first what its ramp does (`move_of`), then, where it gives a sample, what that makes
 -- of the signal. Assumes nothing.
-use mathlib.Core.Path.{◌≡◌, ap, ◌∙◌}
+use mathlib.Core.Path.{◌≡◌, ◌∙◌}
 use mathlib.Core.Bool.{true, false}
 use mathlib.Core.List.{List}
 use Prim.Native.Nat.{ℕ, ◌-◌, ◌≤◌, ◌<◌}
@@ -14,7 +14,6 @@ use Rattle.channel.specs.declared.Gave.{Gave}
 use Rattle.channel.specs.declared.Gave.TheVariants.{OfFreeRun}
 use Rattle.channel.specs.declared.Ramp.{Ramp}
 use Rattle.channel.specs.declared.Ramp.TheVariants.{Still}
-use Rattle.channel.specs.declared.Phase.{Phase}
 use Rattle.channel.specs.declared.Phase.TheVariants.{Rest, Counting, Running, FreeRunning}
 use Rattle.channel.specs.declared.Channel.{Channel}
 use Rattle.channel.specs.Ramp.{enter, next, way, given, advance}
@@ -27,7 +26,7 @@ module _ (ed : Edition) (s l : List ℕ) (c : ℕ) (ch : Channel) where
 
   counting : (n : ℕ) (o : Ramp) → ch.phase ≡ Counting (record { 0 = n }) o → move_of ed s l c ch ≡ count_to ed (n - 1) o s l c ch
   unfolding move_at
-  counting n o e = ap (λ (f : Phase). move_at ed f s l c ch) e
+  counting n o e = cc
 
   move_still : (n : ℕ) → ch.phase ≡ Counting (record { 0 = n }) Still → 1 < n → (n ≡ 11 → ⊥)
       → move_of ed s l c ch ≡ quiet (side (with ch (Counting (record { 0 = n - 1 }) Still) ch.shown) l)
@@ -72,7 +71,7 @@ module _ (ed : Edition) (s l : List ℕ) (c : ℕ) (ch : Channel) where
   module _ (u : List ℕ) where
     pub tick_made : (m : Move) → move_of ed s l c ch ≡ m → tick_of ed s u l c ch ≡ sounded_side u c m
     unfolding tick_of
-    tick_made m e = ap (λ (x : Move). sounded_side u c x) e
+    tick_made m e = cc
 
     -- where no sample is given it stays
     tick_quiet : (x : Side) → move_of ed s l c ch ≡ quiet x → tick_of ed s u l c ch ≡ x

@@ -1,7 +1,8 @@
 -- The amplitudes and the outputs of a ramp follow from what was loaded and what stood there just before the start (`outputs_follow`): each
 -- sample sets such a word or holds it, and between samples it stays, since no output write is taken while a ramp runs or free-runs. This is
 -- said once of any word of a channel (`Traced`), then of the two. Assumes nothing.
-use mathlib.Core.Path.{◌≡◌, refl, ap, sym, subst, ◌∙◌}
+use Rattle.std.specs.Prelude.{Option, None}
+use mathlib.Core.Path.{◌≡◌, refl, ap, ◌∙◌}
 use mathlib.Core.Bool.{Bool, true, false, cond}
 use mathlib.Core.Logic.{inl, inr}
 use mathlib.Core.List.{List, [], ◌∷◌}
@@ -14,20 +15,16 @@ use lib.ListN.{length}
 use borrow.Author.Tests.{leb-true, leb-false, le-leb}
 use Rattle.map.specs.Addresses.{enable_at}
 use Rattle.sum.specs.declared.Edition.{Edition}
-use Rattle.sum.specs.declared.Sum.{Sum}
-use Rattle.sum.specs.declared.Sum.TheVariants.{Overflow}
 use Rattle.channel.specs.declared.Shown.{Shown}
 use Rattle.channel.specs.declared.Signal.{Signal}
-use Rattle.channel.specs.declared.Phase.{Phase}
 use Rattle.channel.specs.declared.Channel.{Channel}
 use Rattle.channel.specs.Ramp.{hold}
 use Rattle.channel.specs.Channel.{Side, word, ramp_of, going, countdown, triggered}
 use Rattle.course.specs.Course.{Act, Tick, Elsewhere, Output, Clear, act, run, ticks_in, until, held_on, waves_on}
-use Rattle.course.specs.Follows.{total_for, sum_for, free_for, Plays}
+use Rattle.course.specs.Follows.{total_for, sum_for, Plays}
 use Rattle.course.specs.Outputs.{latest, amplitude_for, output_for, MoreToCome, Outputs, OutputsFollow}
 use Rattle.course.proofs.Copies.{trigger_length}
 use Rattle.course.proofs.Acts.{act_length, before_all, waves_next, not_written}
-use Rattle.course.proofs.Points.{differ}
 use Rattle.course.proofs.Signals.{same_sound, signal_output}
 use Rattle.course.proofs.Course.{Course, waits, starts, runs, frees, rests, off, Ahead, Ticked, ticked, beside_elsewhere, beside_output, beside_clear}
 use Rattle.course.proofs.Follows.{course_trigger, ahead, tick_now}
@@ -46,7 +43,7 @@ module _ (ed : Edition) (c v : ℕ) (w : List ℕ) (d : ℕ) where
 
   -- ---- any word of a channel, o before the start, of which each sample makes a sum or holds it
 
-  module _ (of : Channel → ℕ) (sums : ℕ → Sum) (o : ℕ) where
+  module _ (of : Channel → ℕ) (sums : ℕ → Option ℕ) (o : ℕ) where
     -- the word t ticks after the trigger, while samples are to come
     Traced : ℕ → Side → Type 0
     Traced t x = (k j : ℕ) → MoreToCome w c v k → j < 10 → t ≡ d + 10 * k + j → of x.channel ≡ latest sums o k
@@ -60,9 +57,9 @@ module _ (ed : Edition) (c v : ℕ) (w : List ℕ) (d : ℕ) where
     sample_out : (t : ℕ) (x x' : Side) → Reads t x x' → Traced t x → (t + 1 ≡ d → of x.channel ≡ o)
         → (k : ℕ) → Plays w c v k → t + 1 ≡ d + 10 * k → of x'.channel ≡ latest sums o k
     unfolding Traced
-    sample_out t x x' y r b zero h e = y.made 0 h e ∙ ap (λ (u : ℕ). hold (sums 0) u) (b (omega arith))
+    sample_out t x x' y r b zero h e = cc (y.made 0 h e, b (omega arith))
     sample_out t x x' y r b (suc k) h e =
-        y.made (suc k) h e ∙ ap (λ (u : ℕ). hold (sums (suc k)) u) (r k 9 (plays_goes k h) (omega arith) (omega arith))
+        cc (y.made (suc k) h e, r k 9 (plays_goes k h) (omega arith) (omega arith))
 
     tick_out : (t : ℕ) (x x' : Side) → Reads t x x' → Traced t x → (t + 1 ≡ d → of x.channel ≡ o) → Traced (t + 1) x'
     unfolding Traced
@@ -81,10 +78,10 @@ module _ (ed : Edition) (c v : ℕ) (w : List ℕ) (d : ℕ) where
     unfolding Traced
     output_out t x u (waits n i q p g f) y k j h b s = absurd (omega arith)
     output_out t x u (starts n q p i g f) y k j h b s = absurd (omega arith)
-    output_out t x u (runs m r a q p i g e n f) y k j h b s = not_taken t x u (ap (λ (q : Phase). going (ramp_of q)) f) y k j h b s
-    output_out t x u (frees m r a z q p i g e n f) y k j h b s = not_taken t x u (ap (λ (q : Phase). going (ramp_of q)) f) y k j h b s
+    output_out t x u (runs m r a q p i g e n f) y k j h b s = not_taken t x u (cc) y k j h b s
+    output_out t x u (frees m r a z q p i g e n f) y k j h b s = not_taken t x u (cc) y k j h b s
     output_out t x u (rests a e q g f) y k j (inl h) b s = absurd (omega arith)
-    output_out t x u (rests a e q g f) y k j (inr h) b s = absurd (differ (free_for w c v) h e)
+    output_out t x u (rests a e q g f) y k j (inr h) b s = absurd cc
     output_out t x u (off a q g f) y k j h b s = absurd (a refl)
 
   -- ---- the amplitude and the output, a and o before the start, u k being the wave tables of sample k
@@ -96,22 +93,22 @@ module _ (ed : Edition) (c v : ℕ) (w : List ℕ) (d : ℕ) where
   output ch = ch.signal.output
 
   -- the sums that move the amplitude: after the end's sample it is held
-  abbrev moves : ℕ → Sum
-  moves k = cond (leb k T) (sum_for ed w c v k) Overflow
+  abbrev moves : ℕ → Option ℕ
+  moves k = cond (leb k T) (sum_for ed w c v k) None
 
   moves_latest : (a k : ℕ) → latest moves a k ≡ amplitude_for ed w c v a k
   moves_latest a zero =
       let e : 0 ≡ min 0 T = omega arith in
-      rw (le-leb 0 T (omega arith)) (ap (λ (n : ℕ). latest (sum_for ed w c v) a n) e)
+      rw (le-leb 0 T (omega arith)) cc
   moves_latest a (suc k) = go (leb (suc k) T) refl (moves_latest a k)
     where
       go : (b : Bool) → leb (suc k) T ≡ b → latest moves a k ≡ amplitude_for ed w c v a k
-          → hold (cond b (sum_for ed w c v (suc k)) Overflow) (latest moves a k) ≡ amplitude_for ed w c v a (suc k)
+          → hold (cond b (sum_for ed w c v (suc k)) None) (latest moves a k) ≡ amplitude_for ed w c v a (suc k)
       go true e r =
           let p : min k T ≡ k = omega (arith, leb-true) in
           let q : suc k ≡ min (suc k) T = omega (arith, leb-true) in
-          ap (λ (n : ℕ). hold (sum_for ed w c v (suc k)) n) (r ∙ ap (λ (n : ℕ). latest (sum_for ed w c v) a n) p) ∙ ap (λ (n : ℕ). latest (sum_for ed w c v) a n) q
-      go false e r = let p : min k T ≡ min (suc k) T = omega (arith, leb-false) in r ∙ ap (λ (n : ℕ). latest (sum_for ed w c v) a n) p
+          cc
+      go false e r = let p : min k T ≡ min (suc k) T = omega (arith, leb-false) in cc
 
   module _ (u : ℕ → List ℕ) (a o : ℕ) where
     -- what stands there before the start
@@ -133,13 +130,13 @@ module _ (ed : Edition) (c v : ℕ) (w : List ℕ) (d : ℕ) where
       amplitude_reads =
           record {
             made = λ k h e. go k (leb k T) refl e;
-            still = λ h n. ap (λ (s : Shown). s.amplitude) (y.silent h (λ i k j e. n k (inl j) e));
+            still = λ h n. cc (y.silent h (λ i k j e. n k (inl j) e));
           }
         where
           go : (k : ℕ) (i : Bool) → leb k T ≡ i → t + 1 ≡ d + 10 * k
-              → later.channel.shown.amplitude ≡ hold (cond i (sum_for ed w c v k) Overflow) x.channel.shown.amplitude
+              → later.channel.shown.amplitude ≡ hold (cond i (sum_for ed w c v k) None) x.channel.shown.amplitude
           go k true g e = ap (λ (s : Shown). s.amplitude) (y.sample refl k (omega (arith, leb-true)) e)
-          go k false g e = ap (λ (s : Shown). s.amplitude) (y.silent (omega arith) (λ i j h p. omega (arith, leb-false)))
+          go k false g e = cc (y.silent (omega arith) (λ i j h p. omega (arith, leb-false)))
 
       just_amplitude_lem : (k : ℕ) → Plays w c v k → t + 1 ≡ d + 10 * k → later.channel.shown.amplitude ≡ amplitude_for ed w c v a k
       just_amplitude_lem k h e = sample_out amplitude moves a t x later amplitude_reads r.moved (λ i. (b i).0) k h e ∙ moves_latest a k
@@ -149,8 +146,8 @@ module _ (ed : Edition) (c v : ℕ) (w : List ℕ) (d : ℕ) where
           record {
             made = λ k h e.
                 ap (λ (g : Signal). g.output) (y.made refl k h e) ∙ signal_output ed c v w q later.channel.shown.amplitude x.channel.signal k
-                ∙ ap (λ (n : Sum). hold n x.channel.signal.output) (same_sound ed c v w k q (u k) _ _ (waves k e) (just_amplitude_lem k h e));
-            still = λ h n. ap (λ (g : Signal). g.output) (y.still h (λ i k j e. n k j e));
+                ∙ ap (λ (n : Option ℕ). hold n x.channel.signal.output) (same_sound ed c v w k q (u k) _ _ (waves k e) (just_amplitude_lem k h e));
+            still = λ h n. cc (y.still h (λ i k j e. n k j e));
           }
 
       just_output_lem : (k : ℕ) → Plays w c v k → t + 1 ≡ d + 10 * k → later.channel.signal.output ≡ latest (output_for ed u w c v a) o k
@@ -218,15 +215,15 @@ module _ (ed : Edition) (s l : List ℕ) (c : ℕ) (ch : Channel) (v : ℕ) (roo
   o' = before.signal.output
 
   ahead_on : Ahead ed c v w' 1 d' 0 s z xs
-  ahead_on = subst (λ (a : ℕ). Ahead ed c v w' a d' 0 s z xs) on (ahead ed s l c ch v room xs z)
+  ahead_on = rw (← on) (ahead ed s l c ch v room xs z)
 
   tick_on : Ticked ed c v w' 1 d' (ticks_in xs) z q now
-  tick_on = subst (λ (a : ℕ). Ticked ed c v w' a d' (ticks_in xs) z q now) on (tick_now ed s l c ch v room xs z q)
+  tick_on = rw (← on) (tick_now ed s l c ch v room xs z q)
 
   until_start : (ys : List Act) → ys ≡ until d' xs → Before ed c v w' d' u' a' o' (run ed c (triggered s l c ch v) ys).channel
   until_start ys e = (
-    ap (λ (zs : List Act). (run ed c (triggered s l c ch v) zs).channel.shown.amplitude) e,
-    ap (λ (zs : List Act). (run ed c (triggered s l c ch v) zs).channel.signal.output) e,
+    cc,
+    cc,
   )
 
   traced : Both ed c v w' d' u' a' o' (ticks_in xs) now
@@ -234,20 +231,20 @@ module _ (ed : Edition) (s l : List ℕ) (c : ℕ) (ch : Channel) (v : ℕ) (roo
   traced =
       rw zero-add at
       (traced_run ed c v w' d' u' a' o' 0 s z q (triggered s l c ch v) xs (rw (trigger_length s l c ch v) room) ahead_on
-      (λ n e. let i : suc n ≡ d' = omega arith in until_start (until (suc n) xs) (ap (λ (m : ℕ). until m xs) i))
-      (λ n k e. let i : suc n ≡ d' + 10 * k = omega arith in ap (λ (m : ℕ). waves_on q m xs) i)
+      (λ n e. let i : suc n ≡ d' = omega arith in until_start (until (suc n) xs) cc)
+      (λ n k e. let i : suc n ≡ d' + 10 * k = omega arith in cc)
       (course_trigger ed s l c ch v room xs z 1)
       (record { moved = λ m j h g e. absurd (omega arith); made = λ m j h g e. absurd (omega arith) }))
 
   before_start : ticks_in xs + 1 ≡ d' → Before ed c v w' d' u' a' o' now.channel
   before_start e =
       let i : suc (ticks_in xs) ≡ d' = omega arith in
-      until_start xs (sym (before_all (ticks_in xs) xs (omega arith)) ∙ ap (λ (n : ℕ). until n xs) i)
+      until_start xs (cc (before_all (ticks_in xs) xs (omega arith)))
 
   waves_now : (k : ℕ) → ticks_in xs + 1 ≡ d' + 10 * k → q ≡ u' k
   waves_now k e =
       let i : suc (ticks_in xs) ≡ d' + 10 * k = omega arith in
-      sym (waves_next q (ticks_in xs) xs (omega arith)) ∙ ap (λ (n : ℕ). waves_on q n xs) i
+      cc (waves_next q (ticks_in xs) xs (omega arith))
 
   outputs : Outputs ed c v d' w' u' a' o' (ticks_in xs) now (act ed c now (Tick z q))
   unfolding Traced

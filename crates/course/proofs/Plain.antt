@@ -1,14 +1,13 @@
 -- A tick with A01 0 is document 01's (`plain_ticks`): whatever the phase, the ramp moves as that of a channel whose amplitude is the output,
 -- and the signal takes the sample as the amplitude does, with no word of the wave tables. Assumes nothing.
-use mathlib.Core.Path.{◌≡◌, refl, ap, ◌∙◌}
+use Rattle.std.specs.Prelude.{Option, Some, None}
+use mathlib.Core.Path.{◌≡◌, refl, ap}
 use mathlib.Core.Bool.{Bool, true, false, cond}
 use mathlib.Core.List.{List}
 use Prim.Native.Nat.{ℕ, ◌-◌}
 use lib.Dec.{ltb, eqb}
 use Rattle.map.specs.Addresses.{enable_at}
 use Rattle.sum.specs.declared.Edition.{Edition}
-use Rattle.sum.specs.declared.Sum.{Sum}
-use Rattle.sum.specs.declared.Sum.TheVariants.{Word, Overflow}
 use Rattle.channel.specs.declared.Gave.{Gave}
 use Rattle.channel.specs.declared.Gave.TheVariants.{NoSample, OfRamp, OfFreeRun}
 use Rattle.channel.specs.declared.Ramp.{Ramp}
@@ -22,9 +21,8 @@ use Rattle.channel.specs.declared.Moved.{Moved}
 use Rattle.channel.specs.declared.Channel.{Channel}
 use Rattle.channel.specs.Ramp.{hold, enter, next, given, sooner, unsampled, advance, is_sine}
 use Rattle.channel.specs.Signal.{signal_after, make_of}
-use Rattle.channel.specs.Channel.{Move, move, quiet, side, word, first_of, with, with_signal, phase_of, ramp_of, loads_at, load, start, count_to, move_at, move_of, tick_of}
+use Rattle.channel.specs.Channel.{Move, move, quiet, side, word, first_of, with, phase_of, ramp_of, loads_at, load, start, count_to, move_at, move_of, tick_of}
 use Rattle.course.specs.Plain.{as_output, counted_by, is_free, PlainTick, PlainTicks}
-use Rattle.course.proofs.Points.{differ}
 use Rattle.course.proofs.Signals.{after_output}
 
 -- what is so of both sides of a test, told twice
@@ -36,9 +34,8 @@ choose_both P false x y x' y' p q = q
 
 -- the word that a sample moves or holds
 abbrev held_by : Gave → ℕ → ℕ
-held_by NoSample o = o
 held_by (OfRamp isFirst x) o = hold x o
-held_by OfFreeRun o = o
+held_by _ o = o
 
 -- a sample that makes a sine
 abbrev sings : Gave → Tone → Bool
@@ -46,28 +43,28 @@ sings NoSample t = false
 sings (OfRamp isFirst x) t = is_sine t.mode
 sings OfFreeRun t = true
 
-after_overflow : (x : Sum) (isFirst : Bool) (n : ℕ) (g : Signal) → (signal_after x false n g).overflow ≡ counted_by (OfRamp isFirst x) g.overflow
-after_overflow (Word v) isFirst n g = refl
-after_overflow Overflow isFirst n g = refl
+after_overflow : (x : Option ℕ) (isFirst : Bool) (n : ℕ) (g : Signal) → (signal_after x false n g).overflow ≡ counted_by (OfRamp isFirst x) g.overflow
+after_overflow (Some v) isFirst n g = refl
+after_overflow None isFirst n g = refl
 
 module _ (w : List ℕ) (c : ℕ) (t : Tone) (a : ℕ) (g : Signal) where
   made_output : (y : Gave) → sings y t ≡ false → (make_of w c y t a g).output ≡ held_by y g.output
   unfolding make_of
   made_output NoSample e = refl
   made_output (OfRamp isFirst x) e = rw e (after_output x false g.counter g)
-  made_output OfFreeRun e = absurd (differ true refl e)
+  made_output OfFreeRun e = absurd cc
 
   made_overflow : (y : Gave) → sings y t ≡ false → (make_of w c y t a g).overflow ≡ counted_by y g.overflow
   unfolding make_of
   made_overflow NoSample e = refl
   made_overflow (OfRamp isFirst x) e = rw e (after_overflow x isFirst g.counter g)
-  made_overflow OfFreeRun e = absurd (differ true refl e)
+  made_overflow OfFreeRun e = absurd cc
 
   made_waves : (v : List ℕ) (y : Gave) → sings y t ≡ false → make_of v c y t a g ≡ make_of w c y t a g
   unfolding make_of
   made_waves v NoSample e = refl
   made_waves v (OfRamp isFirst x) e = rw e
-  made_waves v OfFreeRun e = absurd (differ true refl e)
+  made_waves v OfFreeRun e = absurd cc
 
 -- ---- the ramp of channel c, in plain mode
 
@@ -127,7 +124,7 @@ module _ (ed : Edition) (s l : List ℕ) (c : ℕ) (ch : Channel) (plain : is_si
   alike_advance (Going r) e =
       choose_both AlikeRamp (ltb 1 r.wait.0) _ _ _ _ (alike_unsampled (Going (sooner r)))
       (alike_given false r.period.0 (next l (first_of c) r.place))
-  alike_advance (Free r) e = absurd (differ true refl e)
+  alike_advance (Free r) e = absurd cc
 
   alike_start : Alike (start ed s l c ch) (start ed s l c (as_output ch))
   unfolding start
@@ -150,7 +147,7 @@ module _ (ed : Edition) (s l : List ℕ) (c : ℕ) (ch : Channel) (plain : is_si
   alike_move Rest e = alike_quiet ch.phase
   alike_move (Counting n older) e = alike_count (n.0 - 1) older e
   alike_move (Running w) e = alike_moved phase_of _ _ (alike_advance (Going w) e)
-  alike_move (FreeRunning w) e = absurd (differ true refl e)
+  alike_move (FreeRunning w) e = absurd cc
 
   plain_tick : (w : List ℕ) → is_free (ramp_of ch.phase) ≡ false → PlainTick ed s w l c ch (move_of ed s l c (as_output ch))
   unfolding tick_of
@@ -160,16 +157,15 @@ module _ (ed : Edition) (s l : List ℕ) (c : ℕ) (ch : Channel) (plain : is_si
       let t : Tone = x.channel.loaded.tone in
       let a : ℕ = x.channel.shown.amplitude in
       record {
-        output = made_output w c t a x.channel.signal x.gave h.silent ∙ ap (λ (g : Signal). held_by x.gave g.output) h.signal ∙ h.holds;
+        output = cc (made_output w c t a x.channel.signal x.gave h.silent);
         overflow =
-            made_overflow w c t a x.channel.signal x.gave h.silent ∙ ap (λ (g : Signal). counted_by x.gave g.overflow) h.signal
-            ∙ ap (λ (y : Gave). counted_by y ch.signal.overflow) h.gave;
+            cc (made_overflow w c t a x.channel.signal x.gave h.silent);
         place = h.place;
         phase = h.phase;
         level = h.level;
         loaded = h.loaded;
         tables = h.tables;
-        waves = λ v. ap (λ (g : Signal). side (with_signal x.channel g) x.tables) (made_waves w c t a x.channel.signal v x.gave h.silent);
+        waves = λ v. cc (made_waves w c t a x.channel.signal v x.gave h.silent);
       }
 
 -- With A01 0 a tick is document 01's

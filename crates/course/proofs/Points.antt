@@ -1,6 +1,6 @@
 -- The end point, T and the places are what the points say: every table has exactly one end point, T is the sum of the time steps before
 -- it (`samples`), and each sample's place leads to the next point. Assumes nothing.
-use mathlib.Core.Path.{◌≡◌, refl, ap}
+use mathlib.Core.Path.{◌≡◌, refl}
 use mathlib.Core.Bool.{Bool, true, false}
 use mathlib.Core.List.{List}
 use Prim.Native.Nat.{ℕ, zero, suc, ◌+◌, ◌-◌, ◌≤◌, ◌<◌}
@@ -14,18 +14,10 @@ use Rattle.channel.specs.Ramp.{place}
 use Rattle.course.specs.Points.{end_from, end_point, total, place_from, place_of, EndPoint, Within, Samples}
 use Rattle.course.proofs.Walk.{end_63, ends, to_come, total_all}
 
--- two truths differ
-pub differ : (b : Bool) → b ≡ true → b ≡ false → ⊥
-differ b p q = let z : ◌≡◌ {A = ℕ} 0 1 = cc in omega arith
-
 module _ (w : List ℕ) (first : ℕ) where
   -- what holds below n and at n holds below n + 1
   below_next : (n : ℕ) → ends w first n ≡ false → ((i : ℕ) → i < n → ends w first i ≡ false) → (i : ℕ) → i < n + 1 → ends w first i ≡ false
-  below_next n e b i h = go (ltb i n) refl
-    where
-      go : (x : Bool) → ltb i n ≡ x → ends w first i ≡ false
-      go true q = b i (omega (arith, ltb-true))
-      go false q = let s : i ≡ n = omega (arith, ltb-false) in rw s e
+  below_next n e b i h = grind (arith, b i)
 
   found : (f n : ℕ) → f + n ≡ 63 → ((i : ℕ) → i < n → ends w first i ≡ false) → EndPoint w first (end_from w first f n)
   found zero n h b = record { here = end_63 n (step_at w first n) (omega arith); earlier = b }
@@ -43,12 +35,7 @@ module _ (w : List ℕ) (first : ℕ) where
 
   -- and there is no other
   pub one_end : (m n : ℕ) → EndPoint w first m → EndPoint w first n → m ≡ n
-  one_end m n x y = go (ltb m n) refl (ltb n m) refl
-    where
-      go : (b : Bool) → ltb m n ≡ b → (d : Bool) → ltb n m ≡ d → m ≡ n
-      go true p d q = absurd (differ (ends w first m) x.here (y.earlier m (omega (arith, ltb-true))))
-      go false p true q = absurd (differ (ends w first n) y.here (x.earlier n (omega (arith, ltb-true))))
-      go false p false q = omega (arith, ltb-false)
+  one_end m n x y = grind arith
 
   -- ---- the samples, with e the end point
 
@@ -63,27 +50,13 @@ module _ (w : List ℕ) (first : ℕ) where
   module _ (e : ℕ) (end : EndPoint w first e) where
     -- the test finds the end point
     pub at_end : (n : ℕ) → n ≤ e → ends w first n ≡ true → n ≡ e
-    at_end n h q = go (ltb n e) refl
-      where
-        go : (x : Bool) → ltb n e ≡ x → n ≡ e
-        go true y = absurd (differ (ends w first n) q (end.earlier n (omega (arith, ltb-true))))
-        go false y = omega (arith, ltb-false)
+    at_end n h q = grind arith
 
     pub not_end : (n : ℕ) → n ≤ e → ends w first n ≡ false → n < e
-    not_end n h q = go (ltb n e) refl
-      where
-        go : (x : Bool) → ltb n e ≡ x → n < e
-        go true y = omega (arith, ltb-true)
-        go false y =
-            let s : n ≡ e = omega (arith, ltb-false) in
-            absurd (differ (ends w first e) end.here (rw s at q))
+    not_end n h q = grind arith
 
     most : e ≤ 63
-    most = go (ltb 63 e) refl
-      where
-        go : (x : Bool) → ltb 63 e ≡ x → e ≤ 63
-        go true y = absurd (differ (ends w first 63) (end_63 63 (step_at w first 63) (omega arith)) (end.earlier 63 (omega (arith, ltb-true))))
-        go false y = omega (arith, ltb-false)
+    most = grind arith
 
     within_from : (f n k : ℕ) → f + n ≡ 63 → n ≤ e → k < to_come w first f n → Within w first e (k + steps_before w first n) (place_from w first f n k)
     within_from zero n k h g u = absurd (omega arith)
@@ -123,7 +96,7 @@ module _ (w : List ℕ) (first : ℕ) where
     unfolding total place_of
     samples =
         record {
-          all = ap (λ (n : ℕ). steps_before w first n) (one_end (end_point w first) e the_end end);
+          all = cc (one_end (end_point w first) e the_end end);
           within = λ k h. rw (steps_none, add-zero) at (within_from 63 0 k (omega arith) (omega arith) (rw (total_all w first) at h));
           last = last_from 63 0 (total w first) (omega arith) (omega arith) (total_all w first);
         }

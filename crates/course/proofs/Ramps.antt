@@ -1,5 +1,6 @@
 -- The samples of a table's ramp, in order, are those of its points (`in_order`): point by point, from the last one back. So the checked
 -- examples of `sum` speak of the samples of demand 3. Assumes nothing.
+use Rattle.std.specs.Prelude.{Option, None}
 use mathlib.Core.Path.{◌≡◌, refl, ap, sym, ◌∙◌}
 use mathlib.Core.Bool.{Bool, true, false, cond}
 use mathlib.Core.List.{List}
@@ -10,8 +11,6 @@ use lib.ListN.{length, get_or}
 use borrow.Author.Tests.{ltb-true, ltb-false, lt-leb, ne_eqb}
 use Rattle.word.specs.Table.{value_at, step_at, is_end}
 use Rattle.sum.specs.declared.Edition.{Edition}
-use Rattle.sum.specs.declared.Sum.{Sum}
-use Rattle.sum.specs.declared.Sum.TheVariants.{Overflow}
 use Rattle.sum.specs.Sample.{sample_of}
 use Rattle.sum.specs.Ramp.{down_to, ending, ramp_from, steps_from}
 use Rattle.channel.specs.declared.Loaded.{Loaded}
@@ -22,17 +21,17 @@ use Rattle.course.proofs.Walk.{to_come, total_all}
 
 -- ---- m samples left down to 1
 
-down_to_in : (at : ℕ → Sum) (m : ℕ) (rest : List Sum) (k : ℕ) → k < m → get_or (down_to at m rest) k Overflow ≡ at (m - k)
+down_to_in : (at : ℕ → Option ℕ) (m : ℕ) (rest : List (Option ℕ)) (k : ℕ) → k < m → get_or (down_to at m rest) k None ≡ at (m - k)
 down_to_in at zero rest k h = absurd (omega arith)
 down_to_in at (suc m) rest zero h = ap at (omega arith)
 down_to_in at (suc m) rest (suc k) h = down_to_in at m rest k (omega arith) ∙ ap at (omega arith)
 
-down_to_past : (at : ℕ → Sum) (m : ℕ) (rest : List Sum) (k : ℕ) → m ≤ k → get_or (down_to at m rest) k Overflow ≡ get_or rest (k - m) Overflow
-down_to_past at zero rest k h = ap (λ (i : ℕ). get_or rest i Overflow) (omega arith)
+down_to_past : (at : ℕ → Option ℕ) (m : ℕ) (rest : List (Option ℕ)) (k : ℕ) → m ≤ k → get_or (down_to at m rest) k None ≡ get_or rest (k - m) None
+down_to_past at zero rest k h = ap (λ (i : ℕ). get_or rest i None) (omega arith)
 down_to_past at (suc m) rest zero h = absurd (omega arith)
-down_to_past at (suc m) rest (suc k) h = down_to_past at m rest k (omega arith) ∙ ap (λ (i : ℕ). get_or rest i Overflow) (omega arith)
+down_to_past at (suc m) rest (suc k) h = down_to_past at m rest k (omega arith) ∙ ap (λ (i : ℕ). get_or rest i None) (omega arith)
 
-down_to_length : (at : ℕ → Sum) (m : ℕ) (rest : List Sum) → length (down_to at m rest) ≡ m + length rest
+down_to_length : (at : ℕ → Option ℕ) (m : ℕ) (rest : List (Option ℕ)) → length (down_to at m rest) ≡ m + length rest
 down_to_length at zero rest = omega arith
 down_to_length at (suc m) rest = ap suc (down_to_length at m rest) ∙ omega arith
 
@@ -42,10 +41,10 @@ end_step n step h = rw (lt-leb 63 n h)
 
 module _ (ed : Edition) (w : List ℕ) (first : ℕ) (l : Loaded) where
   -- from point n on, with f points after it
-  abbrev from : ℕ → ℕ → List Sum
+  abbrev from : ℕ → ℕ → List (Option ℕ)
   from f n = ramp_from ed l.scale l.offset (point_at w first n) (points_after w first f n)
 
-  abbrev along : ℕ → ℕ → Sum
+  abbrev along : ℕ → ℕ → Option ℕ
   along n m = sample_of ed l.scale (value_at w first n) (value_at w first (n + 1)) (step_at w first n) m l.offset
 
   sample_end : (n : ℕ) → sample_of ed l.scale (value_at w first n) (value_at w first n) 0 0 l.offset ≡ sample_at ed w first l (place n 0)
@@ -71,7 +70,7 @@ module _ (ed : Edition) (w : List ℕ) (first : ℕ) (l : Loaded) where
       go true e = refl
       go false e = down_to_length (along n) (step_at w first n) (from f (n + 1)) ∙ omega arith
 
-  each_from : (f n k : ℕ) → f + n ≡ 63 → k ≤ to_come w first f n → get_or (from f n) k Overflow ≡ sample_at ed w first l (place_from w first f n k)
+  each_from : (f n k : ℕ) → f + n ≡ 63 → k ≤ to_come w first f n → get_or (from f n) k None ≡ sample_at ed w first l (place_from w first f n k)
   each_from zero n k h g = let k0 : k ≡ 0 = omega arith in rw k0 (sample_end n)
   each_from (suc f) n k h g =
       rw (end_step n (step_at w first n) (omega arith))
@@ -81,8 +80,8 @@ module _ (ed : Edition) (w : List ℕ) (first : ℕ) (l : Loaded) where
     where
       go : (b d : Bool) → ltb k (step_at w first n) ≡ d → k ≤ cond b 0 (step_at w first n + to_come w first f (n + 1))
           → (k - step_at w first n ≤ to_come w first f (n + 1)
-          → get_or (from f (n + 1)) (k - step_at w first n) Overflow ≡ sample_at ed w first l (place_from w first f (n + 1) (k - step_at w first n)))
-          → get_or (cond b (ending ed l.scale l.offset (point_at w first n)) (down_to (along n) (step_at w first n) (from f (n + 1)))) k Overflow
+          → get_or (from f (n + 1)) (k - step_at w first n) None ≡ sample_at ed w first l (place_from w first f (n + 1) (k - step_at w first n)))
+          → get_or (cond b (ending ed l.scale l.offset (point_at w first n)) (down_to (along n) (step_at w first n) (from f (n + 1)))) k None
           ≡ sample_at ed w first l
           (cond b (place n 0) (cond d (place n (step_at w first n - k)) (place_from w first f (n + 1) (k - step_at w first n))))
       go true d e u ih = let k0 : k ≡ 0 = omega arith in rw k0 (sample_end n)

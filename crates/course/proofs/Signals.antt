@@ -1,6 +1,7 @@
 -- What a sample makes of the signal is what demand 3 says of it, as long as the counter is the one of the sample before; and then it is
 -- that of this sample. The counter in one go (`counter_closed`) is by induction over the samples. Assumes nothing.
-use mathlib.Core.Path.{◌≡◌, refl, ap, sym, ◌∙◌}
+use Rattle.std.specs.Prelude.{Option, Some, None}
+use mathlib.Core.Path.{◌≡◌, refl}
 use mathlib.Core.Bool.{Bool, true, false, ◌&&◌, cond}
 use mathlib.Core.List.{List}
 use Prim.Native.Nat.{ℕ, zero, suc, ◌+◌, ◌*◌, ◌%◌, ◌≤◌, ◌<◌}
@@ -8,42 +9,36 @@ use native.Mathlib.Omega.{arith}
 use native.Mathlib.Nat.{suc-mul}
 use native.Mathlib.Numerals.{add-one}
 use lib.Dec.{leb}
-use borrow.Author.Tests.{le-leb, lt-leb}
+use borrow.Author.Tests.{lt-leb}
+use Rattle.std.proofs.lemmas.Bool.{and_parts}
 use Rattle.sum.specs.declared.Edition.{Edition}
-use Rattle.sum.specs.declared.Sum.{Sum}
-use Rattle.sum.specs.declared.Sum.TheVariants.{Word, Overflow}
 use Rattle.wave.specs.Sine.{sine_of}
 use Rattle.channel.specs.declared.Gave.TheVariants.{OfRamp, OfFreeRun}
 use Rattle.channel.specs.declared.Signal.{Signal}
 use Rattle.channel.specs.Ramp.{hold}
-use Rattle.channel.specs.Signal.{signal_after, counter_next, counter_at, sine_after, overflows, make_of}
+use Rattle.channel.specs.Signal.{signal_after, counter_at, overflows, make_of}
 use Rattle.channel.specs.Channel.{tone_for}
 use Rattle.course.specs.Follows.{total_for, sum_for, sine_for, free_for, counter_for, signal_for, CounterClosed}
 
--- of two facts, the first
-pub and_first : (a b : Bool) → a && b ≡ true → a ≡ true
-and_first true b e = refl
-and_first false b e = e
-
 -- ---- one sum
 
-after_counter : (y : Sum) (over : Bool) (n : ℕ) (g : Signal) → (signal_after y over n g).counter ≡ n
-after_counter (Word v) over n g = refl
-after_counter Overflow over n g = refl
+after_counter : (y : Option ℕ) (over : Bool) (n : ℕ) (g : Signal) → (signal_after y over n g).counter ≡ n
+after_counter (Some v) over n g = refl
+after_counter None over n g = refl
 
-pub after_output : (y : Sum) (over : Bool) (n : ℕ) (g : Signal) → (signal_after y over n g).output ≡ hold y g.output
-after_output (Word v) over n g = refl
-after_output Overflow over n g = refl
+pub after_output : (y : Option ℕ) (over : Bool) (n : ℕ) (g : Signal) → (signal_after y over n g).output ≡ hold y g.output
+after_output (Some v) over n g = refl
+after_output None over n g = refl
 
 -- ---- channel c's ramp for the level v under the settings w, with the wave tables u
 
 module _ (ed : Edition) (c v : ℕ) (w : List ℕ) where
   -- free run is one of sine mode
   pub free_sine : free_for w c v ≡ true → sine_for w c v ≡ true
-  free_sine e = and_first (sine_for w c v) _ e
+  free_sine e = (and_parts (sine_for w c v) _ e).0
 
   -- the sum that sample k gives the output, with the wave tables u and the amplitude a
-  abbrev sound_for : List ℕ → ℕ → ℕ → Sum
+  abbrev sound_for : List ℕ → ℕ → ℕ → Option ℕ
   sound_for u k a = cond (sine_for w c v) (sine_of u c (counter_for w c v k) a) (sum_for ed w c v k)
 
   pub same_sound : (k : ℕ) (i j : List ℕ) (m n : ℕ) → i ≡ j → m ≡ n → sound_for i k m ≡ sound_for j k n
@@ -59,25 +54,13 @@ module _ (ed : Edition) (c v : ℕ) (w : List ℕ) where
         rw e (after_counter (sine_of u c (counter_for w c v k) a) (leb k (total_for w c v) && overflows (sum_for ed w c v k)) (counter_for w c v k) g)
 
     pub signal_output : (k : ℕ) → (signal_for ed u w c v k a g).output ≡ hold (sound_for u k a) g.output
-    signal_output k = go (sine_for w c v)
-      where
-        go : (b : Bool)
-            → (cond b (sine_after u c (counter_for w c v k) a (leb k (total_for w c v) && overflows (sum_for ed w c v k)) g) (signal_after (sum_for ed w c v k) false g.counter g)).output
-            ≡ hold (cond b (sine_of u c (counter_for w c v k) a) (sum_for ed w c v k)) g.output
-        go true = after_output (sine_of u c (counter_for w c v k) a) _ (counter_for w c v k) g
-        go false = after_output (sum_for ed w c v k) false g.counter g
+    signal_output k = grind arith
 
     -- a sample of the ramp
     ramp_made : (first : Bool) (k : ℕ) → k ≤ total_for w c v → (sine_for w c v ≡ true → counter_at first (tone_for w c v) g.counter ≡ counter_for w c v k)
         → make_of u c (OfRamp first (sum_for ed w c v k)) (tone_for w c v) a g ≡ signal_for ed u w c v k a g
     unfolding make_of
-    ramp_made first k h n = go (sine_for w c v) refl
-      where
-        go : (b : Bool) → sine_for w c v ≡ b
-            → cond b (sine_after u c (counter_at first (tone_for w c v) g.counter) a (overflows (sum_for ed w c v k)) g) (signal_after (sum_for ed w c v k) false g.counter g)
-            ≡ signal_for ed u w c v k a g
-        go true e = rw (e, n e, le-leb k (total_for w c v) h)
-        go false e = rw e
+    ramp_made first k h n = grind arith
 
     pub first_made : make_of u c (OfRamp true (sum_for ed w c v 0)) (tone_for w c v) a g ≡ signal_for ed u w c v 0 a g
     first_made = ramp_made true 0 (omega arith) (λ e. refl)
@@ -103,5 +86,4 @@ counter_closed s c level zero h = omega arith
 counter_closed s c level (suc k) h =
     let p = (tone_for s c level).phase in
     let f = (tone_for s c level).frequency in
-    ap (λ (n : ℕ). counter_next (tone_for s c level) n) (counter_closed s c level k h)
-    ∙ turned p (k * f) f ∙ ap (λ (n : ℕ). (p + n) % 65536) (sym (suc-mul k f))
+    cc (counter_closed s c level k h, turned p (k * f) f, suc-mul k f)

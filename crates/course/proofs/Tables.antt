@@ -1,18 +1,17 @@
 -- A ramp reads its table's 128 words and no others: two tables with the same words give the same places and the same samples, as long as
 -- a place lies before point 63 or is an end. Assumes nothing.
-use mathlib.Core.Path.{◌≡◌, refl, ap, ◌∙◌}
+use Rattle.std.specs.Prelude.{Option}
+use mathlib.Core.Path.{◌≡◌, refl}
 use mathlib.Core.Bool.{Bool, true, false, cond}
 use mathlib.Core.List.{List}
 use Prim.Native.Nat.{ℕ, ◌+◌, ◌*◌, ◌≤◌, ◌<◌}
 use native.Mathlib.Omega.{arith}
 use native.Mathlib.Nat.{mod-eq_of_lt}
 use lib.Dec.{eqb}
-use lib.ListN.{get_or}
 use borrow.Author.Tests.{eqb-false}
 use Rattle.word.specs.Word.{grown}
 use Rattle.word.specs.Table.{value_at, step_at}
 use Rattle.sum.specs.declared.Edition.{Edition}
-use Rattle.sum.specs.declared.Sum.{Sum}
 use Rattle.sum.specs.Sample.{sample_of}
 use Rattle.channel.specs.declared.Place.{Place}
 use Rattle.channel.specs.declared.Loaded.{Loaded}
@@ -33,7 +32,7 @@ same_sum : (ed : Edition) (ld : Loaded) (m a b s a' b' s' : ℕ) → a ≡ a' �
     → sample_of ed ld.scale a b s m ld.offset ≡ sample_of ed ld.scale a' b' s' m ld.offset
 same_sum ed ld m a b s a' b' s' e f g = rw (e, f, g)
 
-same_choice : (b : Bool) (x y x' y' : Sum) → x ≡ x' → (b ≡ false → y ≡ y') → cond b x y ≡ cond b x' y'
+same_choice : (b : Bool) (x y x' y' : Option ℕ) → x ≡ x' → (b ≡ false → y ≡ y') → cond b x y ≡ cond b x' y'
 same_choice true x y x' y' e f = e
 same_choice false x y x' y' e f = f refl
 
@@ -45,7 +44,7 @@ module _ (l : List ℕ) (at : ℕ) (w : List ℕ) (first : ℕ) (h : SameTable l
   same_step n g =
       let e : at + 2 * n + 1 ≡ at + (2 * n + 1) = omega arith in
       let f : first + (2 * n + 1) ≡ first + 2 * n + 1 = omega arith in
-      ap (λ (i : ℕ). get_or l i 0) e ∙ h (2 * n + 1) (omega arith) ∙ ap (λ (i : ℕ). get_or w i 0) f
+      cc (h (2 * n + 1) (omega arith))
 
   pub same_enter : (n : ℕ) → n ≤ 63 → enter l at n ≡ enter w first n
   unfolding enter

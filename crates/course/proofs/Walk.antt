@@ -4,11 +4,9 @@ use mathlib.Core.Bool.{Bool, true, false, cond}
 use mathlib.Core.List.{List}
 use Prim.Native.Nat.{ℕ, zero, suc, ◌+◌, ◌-◌, ◌≤◌, ◌<◌}
 use native.Mathlib.Omega.{arith}
-use native.Mathlib.Nat.{sub-zero}
 use native.Mathlib.Numerals.{add-one}
-use lib.Dec.{leb, ltb, eqb}
-use borrow.Author.Tests.{leb-false, ltb-true, ltb-false, eqb-false, lt-ltb, le-ltb, le-leb}
-use Rattle.word.specs.Word.{grown}
+use lib.Dec.{ltb}
+use borrow.Author.Tests.{ltb-true, ltb-false, lt-ltb, le-ltb, le-leb}
 use Rattle.word.specs.Table.{step_at, is_end, steps_before}
 use Rattle.channel.specs.declared.Place.{Place}
 use Rattle.channel.specs.Ramp.{place, enter, next}
@@ -22,12 +20,7 @@ end_63 n step h = rw (le-leb 63 n h)
 
 -- a point that is no end lies before point 63 and has a time step
 pub on : (n step : ℕ) → is_end n step ≡ false → (n < 63) × (1 ≤ step)
-on n step e = go (leb 63 n) refl (eqb step 0) refl
-  where
-    go : (a : Bool) → leb 63 n ≡ a → (b : Bool) → eqb step 0 ≡ b → (n < 63) × (1 ≤ step)
-    go true p b q = let z : ◌≡◌ {A = Bool} true false = rw p at e in absurd (let y : ◌≡◌ {A = ℕ} 0 1 = cc in omega arith)
-    go false p true q = let z : ◌≡◌ {A = Bool} true false = rw (p, q) at e in absurd (let y : ◌≡◌ {A = ℕ} 0 1 = cc in omega arith)
-    go false p false q = (omega (arith, leb-false), omega (arith, eqb-false step 0 q))
+on n step e = grind arith
 
 module _ (w : List ℕ) (first : ℕ) where
   -- point n ends the ramp
@@ -60,11 +53,7 @@ module _ (w : List ℕ) (first : ℕ) where
   place_enter : (f n : ℕ) → f + n ≡ 63 → place_from w first f n 0 ≡ enter w first n
   unfolding enter
   place_enter zero n h = rw (end_63 n (step_at w first n) (omega arith))
-  place_enter (suc f) n h = go (ends n) refl
-    where
-      go : (b : Bool) → ends n ≡ b → place_from w first (suc f) n 0 ≡ enter w first n
-      go true e = rw e
-      go false e = rw (e, lt-ltb 0 (step_at w first n) (on n (step_at w first n) e).1, sub-zero)
+  place_enter (suc f) n h = grind arith
 
   -- while the end is not reached, some samples are left in the segment
   place_left : (f n k : ℕ) → k < to_come f n → 1 ≤ (place_from w first f n k).left.0
@@ -151,16 +140,8 @@ module _ (w : List ℕ) (first : ℕ) where
 
 pub placed_enter : (w : List ℕ) (first n : ℕ) → n ≤ 63 → Placed (enter w first n)
 unfolding enter
-placed_enter w first n h = go (is_end n (step_at w first n)) refl
-  where
-    go : (b : Bool) → is_end n (step_at w first n) ≡ b → Placed (place n (cond b 0 (step_at w first n)))
-    go true e = record { most = h; inner = λ z. absurd (omega arith) }
-    go false e = record { most = h; inner = λ z. (on n (step_at w first n) e).0 }
+placed_enter w first n h = grind arith
 
 pub placed_next : (w : List ℕ) (first : ℕ) (p : Place) → p.segment < 63 → Placed (next w first p)
 unfolding next
-placed_next w first p h = go (ltb 1 p.left.0)
-  where
-    go : (b : Bool) → Placed (cond b (place p.segment (p.left.0 - 1)) (enter w first (grown p.segment)))
-    go true = record { most = omega arith; inner = λ z. h }
-    go false = rw (grown_small p.segment h) (placed_enter w first (p.segment + 1) (omega arith))
+placed_next w first p h = grind (arith, placed_enter)

@@ -1,9 +1,8 @@
 -- Demand 3 of one channel: what a trigger leads to. 'In sine mode' it 'speaks of the amplitude, kept on overflow', and the output is the
 -- sine of that.
-use Rattle.std.specs.Prelude.{◌≡◌, Bool, true, false, ◌&&◌, cond, ◌⊎◌, List, ℕ, zero, suc, ◌+◌, ◌*◌, ◌-◌, ◌%◌, ◌≤◌, ◌<◌, leb, length}
+use Rattle.std.specs.Prelude.{◌≡◌, Bool, true, false, ◌&&◌, cond, ◌⊎◌, List, ℕ, zero, suc, ◌+◌, ◌*◌, ◌-◌, ◌%◌, ◌≤◌, ◌<◌, leb, length, Option}
 use Rattle.map.specs.Addresses.{table_at, enable_at}
 use Rattle.sum.specs.declared.Edition.{Edition}
-use Rattle.sum.specs.declared.Sum.{Sum}
 use Rattle.channel.specs.declared.Place.{Place}
 use Rattle.channel.specs.declared.Shown.{Shown}
 use Rattle.channel.specs.declared.Signal.{Signal}
@@ -27,7 +26,7 @@ total_for s c level = total s (table_for s c level)
 abbrev pub place_for : List ℕ → ℕ → ℕ → ℕ → Place
 place_for s c level k = place_of s (table_for s c level) k
 
-abbrev pub sum_for : Edition → List ℕ → ℕ → ℕ → ℕ → Sum
+abbrev pub sum_for : Edition → List ℕ → ℕ → ℕ → ℕ → Option ℕ
 sum_for edition s c level k = sample_at edition s (table_for s c level) (loaded_for s c level) (place_for s c level k)
 
 abbrev pub sample_for : Edition → List ℕ → ℕ → ℕ → ℕ → Shown → Shown

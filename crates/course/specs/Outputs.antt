@@ -1,8 +1,7 @@
 -- The amplitudes and outputs of a ramp, each from what was loaded and what stood there just before the start.
-use Rattle.std.specs.Prelude.{◌≡◌, true, cond, ◌⊎◌, List, ℕ, zero, suc, ◌+◌, ◌*◌, ◌-◌, ◌≤◌, ◌<◌, min, length}
+use Rattle.std.specs.Prelude.{◌≡◌, true, cond, ◌⊎◌, List, ℕ, zero, suc, ◌+◌, ◌*◌, ◌-◌, ◌≤◌, ◌<◌, min, length, Option}
 use Rattle.map.specs.Addresses.{enable_at}
 use Rattle.sum.specs.declared.Edition.{Edition}
-use Rattle.sum.specs.declared.Sum.{Sum}
 use Rattle.wave.specs.Sine.{sine_of}
 use Rattle.channel.specs.declared.Channel.{Channel}
 use Rattle.channel.specs.Ramp.{hold}
@@ -11,7 +10,7 @@ use Rattle.course.specs.Course.{Act, Tick, act, run, ticks_in, until, held_on, w
 use Rattle.course.specs.Follows.{total_for, sum_for, sine_for, free_for, counter_for, Plays}
 
 -- 'the rounded sum .. or, where that overflows, the output held just before': after sum k, o being what stood there before sum 0
-abbrev pub latest : (ℕ → Sum) → ℕ → ℕ → ℕ
+abbrev pub latest : (ℕ → Option ℕ) → ℕ → ℕ → ℕ
 latest sums o zero = hold (sums 0) o
 latest sums o (suc k) = hold (sums (suc k)) (latest sums o k)
 
@@ -20,7 +19,7 @@ abbrev pub amplitude_for : Edition → List ℕ → ℕ → ℕ → ℕ → ℕ 
 amplitude_for edition s c level a k = latest (sum_for edition s c level) a (min k (total_for s c level))
 
 -- the sum that sample k gives the output, w being its wave tables: in sine mode the sine of the amplitude at its counter
-abbrev pub output_for : Edition → (ℕ → List ℕ) → List ℕ → ℕ → ℕ → ℕ → ℕ → Sum
+abbrev pub output_for : Edition → (ℕ → List ℕ) → List ℕ → ℕ → ℕ → ℕ → ℕ → Option ℕ
 output_for edition w s c level a k = cond (sine_for s c level) (sine_of (w k) c (counter_for s c level k) (amplitude_for edition s c level a k)) (sum_for edition s c level k)
 
 -- after sample k another is to come

@@ -1,9 +1,7 @@
 -- A table's ramp in order: its samples are the list that the checked examples are stated with.
-use Rattle.std.specs.Prelude.{◌≡◌, List, [], ◌∷◌, ℕ, zero, suc, ◌+◌, ◌≤◌, length, get_or}
+use Rattle.std.specs.Prelude.{◌≡◌, List, [], ◌∷◌, ℕ, zero, suc, ◌+◌, ◌≤◌, length, get_or, Option, None}
 use Rattle.word.specs.Table.{value_at, step_at}
 use Rattle.sum.specs.declared.Edition.{Edition}
-use Rattle.sum.specs.declared.Sum.{Sum}
-use Rattle.sum.specs.declared.Sum.TheVariants.{Overflow}
 use Rattle.sum.specs.Ramp.{Point, ramp, ramp_steps}
 use Rattle.channel.specs.declared.Loaded.{Loaded}
 use Rattle.channel.specs.Ramp.{sample_at}
@@ -22,7 +20,7 @@ unfoldable pub points_of : List ℕ → ℕ → List Point
 points_of w first = point_at w first 0 ∷ points_after w first 63 0
 
 -- the samples of its ramp, with what a load copied
-abbrev pub samples_of : Edition → List ℕ → ℕ → Loaded → List Sum
+abbrev pub samples_of : Edition → List ℕ → ℕ → Loaded → List (Option ℕ)
 samples_of edition w first l = ramp edition l.scale l.offset (points_of w first)
 
 pub record InOrder (edition : Edition) (w : List ℕ) (first : ℕ) (l : Loaded) : Type 0 where
@@ -31,4 +29,4 @@ pub record InOrder (edition : Edition) (w : List ℕ) (first : ℕ) (l : Loaded)
   -- there are T + 1 samples
   pub many : length (samples_of edition w first l) ≡ total w first + 1
   -- and sample k is the one at its place
-  pub each : (k : ℕ) → k ≤ total w first → get_or (samples_of edition w first l) k Overflow ≡ sample_at edition w first l (place_of w first k)
+  pub each : (k : ℕ) → k ≤ total w first → get_or (samples_of edition w first l) k None ≡ sample_at edition w first l (place_of w first k)

@@ -1,7 +1,8 @@
 -- 0x4210 and 0x4211 show the last trigger after which some channel has loaded (`active_right`): a trigger that is replaced before never
 -- shows (`never_shows`), any other shows on the tick of its first load (`shown_on_time`). Assumes nothing.
-use mathlib.Core.Path.{◌≡◌, refl, sym, ap, ◌∙◌, subst}
-use mathlib.Core.Bool.{Bool, true, false, ◌||◌, cond, true≢false, or-false}
+use Rattle.std.specs.Prelude.{Option, Some, None}
+use mathlib.Core.Path.{◌≡◌, refl, sym, ap, ◌∙◌}
+use mathlib.Core.Bool.{Bool, true, false, ◌||◌, cond, or-false}
 use mathlib.Core.List.{List, [], ◌∷◌}
 use Prim.Native.Nat.{ℕ, zero, suc, ◌+◌, ◌-◌, ◌≤◌, ◌<◌}
 use native.Mathlib.Omega.{arith}
@@ -9,8 +10,6 @@ use lib.Dec.{eqb, leb, leb-suc-suc, leb-suc-zero}
 use lib.ListN.{length}
 use borrow.Author.Tests.{eq-eqb, ne_eqb, eqb-true, eqb-false, le-leb, leb-true, leb-false}
 use Rattle.map.specs.Addresses.{delay_at}
-use Rattle.slots.specs.declared.Holder.{Holder}
-use Rattle.slots.specs.declared.Holder.TheVariants.{Level, Nobody}
 use Rattle.channel.specs.Channel.{word, lead, to_start, loads_at, countdown, output_to, overflow_cleared}
 use Rattle.card.specs.declared.Cause.{Cause}
 use Rattle.card.specs.declared.Card.{Card}
@@ -23,7 +22,7 @@ use Rattle.course.proofs.Copies.{choose}
 use Rattle.history.specs.History.{Act, Tick, Write, Ask, HandIn, Renew, act, acts, words_done, manual_among, trigger_by, is_reset, Quiet, ticks_in}
 use Rattle.history.specs.Effects.{Does, Keeps, Outputs, ClearsOverflow, ClearsCount, Erases, Idles, Triggers}
 use Rattle.history.specs.Triggers.{event_by}
-use Rattle.history.specs.Story.{by_trigger, in_tick, at_trigger}
+use Rattle.history.specs.Story.{in_tick, at_trigger}
 use Rattle.history.specs.Countdowns.{just_before, CountdownsSet}
 use Rattle.history.specs.Active.{load_among, loads_by, loads_in, loads_by_counting, loads_before, loads_at_trigger, loads_after, active_in, at_reset, active_after, last_loaded, ActiveRight, LastTrigger, NeverShows, shortest, first_load, ShownOnTime}
 use Rattle.history.proofs.Addresses.{level_register, event_register}
@@ -41,33 +40,30 @@ abbrev pub causes : Card → Cause × Cause
 causes k = (k.active, k.pending)
 
 word_keeps : (st : State) (a v : ℕ) (y : State) → (a ≡ 0x4202 → ⊥) → Does st a v y → causes y.card ≡ causes st.card
-word_keeps st a v y n (Keeps i e) = ap (λ (x : State). causes x.card) e
-word_keeps st a v y n (Outputs c h i f e) = ap (λ (x : State). causes x.card) e ∙ channel_keeps st.card c (output_to (channel_of st.card c) v) causes refl
-word_keeps st a v y n (ClearsOverflow c h i e) = ap (λ (x : State). causes x.card) e ∙ channel_keeps st.card c (overflow_cleared (channel_of st.card c)) causes refl
-word_keeps st a v y n (ClearsCount l h i e) = ap (λ (x : State). causes x.card) e ∙ count_keeps st.card l 0 causes refl
-word_keeps st a v y n (Erases i f e) = ap (λ (x : State). causes x.card) e
-word_keeps st a v y n (Idles i f e) = ap (λ (x : State). causes x.card) e
+word_keeps st a v y n (Keeps i e) = cc
+word_keeps st a v y n (Outputs c h i f e) = cc (channel_keeps st.card c (output_to (channel_of st.card c) v) causes refl)
+word_keeps st a v y n (ClearsOverflow c h i e) = cc (channel_keeps st.card c (overflow_cleared (channel_of st.card c)) causes refl)
+word_keeps st a v y n (ClearsCount l h i e) = cc (count_keeps st.card l 0 causes refl)
+word_keeps st a v y n (Erases i f e) = cc
+word_keeps st a v y n (Idles i f e) = cc
 word_keeps st a v y n (Triggers i f e) = absurd (n i)
 
 -- a write that is no trigger leaves both
-pub write_keeps : (st : State) (start count : ℕ) (ws : List ℕ) → manual_among start (words_done st start count ws) ≡ Nobody
+pub write_keeps : (st : State) (start count : ℕ) (ws : List ℕ) → manual_among start (words_done st start count ws) ≡ None
     → causes (write_of st start count ws).state.card ≡ causes st.card
 write_keeps =
-    write_by (λ st a vs z. manual_among a vs ≡ Nobody → causes z.card ≡ causes st.card) (λ st a q. refl)
+    write_by (λ st a vs z. manual_among a vs ≡ None → causes z.card ≡ causes st.card) (λ st a q. refl)
     (λ st a v vs z p r q. let y = none_first a v vs q in r y.1 ∙ word_keeps st a v _ y.0 (passed_does st a v p))
 
 -- what is shown just before an act's trigger
 before_active : (st : State) (x : Act) → (just_before st x).card.active ≡ cond (loads_before st x) st.card.pending st.card.active
 before_active st (Tick waves event) = advanced_active waves st
-before_active st (Write start count ws) = refl
-before_active st (Ask what) = refl
-before_active st (HandIn to ws) = refl
-before_active st (Renew how) = refl
+before_active st _ = refl
 
-module _ (st : State) (x : Act) (level : ℕ) (e : trigger_by st x ≡ Level level) where
+module _ (st : State) (x : Act) (level : ℕ) (e : trigger_by st x ≡ Some level) where
   -- an act that is a trigger keeps it, and shows it where some channel loads at once
   kept_pending : (act st x).card.pending ≡ cause level (event_by x)
-  kept_pending = ap (λ (z : State). z.card.pending) (trigger_is st x level e) ∙ trigger_pending (just_before st x) level (event_by x)
+  kept_pending = cc (trigger_is st x level e, trigger_pending (just_before st x) level (event_by x))
 
   pub shown_active : (act st x).card.active ≡ cond (loads_at_trigger st x) (cause level (event_by x)) (just_before st x).card.active
   shown_active =
@@ -97,8 +93,7 @@ act_shown : (st : State) (x : Act) (later : Bool)
     (cond (loads_by st x || later) st.card.pending st.card.active)
 unfolding card_reset
 act_shown st x later =
-    go (trigger_by st x) refl
-    ∙ ap (λ (b : Bool). active_after (trigger_by st x) x (loads_at_trigger st x || later) (cond (b || later) p a)) (sym (loads_told st x))
+    cc (go (trigger_by st x) refl, loads_told st x)
   where
     p : Cause
     p = st.card.pending
@@ -109,30 +104,27 @@ act_shown st x later =
     still : (later : Bool) (y : Card) → causes y ≡ causes st.card → cond later y.pending y.active ≡ cond later p a
     still later y e = ap (λ (t : Cause × Cause). cond later t.1 t.0) e
 
-    quiet : (y : Act) → trigger_by st y ≡ Nobody
-        → cond later (act st y).card.pending (act st y).card.active ≡ active_after Nobody y later (cond (loads_before st y || later) p a)
+    quiet : (y : Act) → trigger_by st y ≡ None
+        → cond later (act st y).card.pending (act st y).card.active ≡ active_after None y later (cond (loads_before st y || later) p a)
     quiet (Tick waves event) e = rw (quiet_tick waves st event e, advanced_pending waves st, advanced_active waves st) (or_else later (loads_by_counting waves st) p a)
     quiet (Write start count ws) e = still later (act st (Write start count ws)).card (write_keeps st start count ws e)
-    quiet (Ask what) e = refl
-    quiet (HandIn to ws) e = refl
     quiet (Renew how) e = choose (λ (x : Cause). x ≡ at_reset) later at_reset at_reset refl refl
+    quiet _ e = refl
 
-    go : (h : Holder) → trigger_by st x ≡ h
+    go : (h : Option ℕ) → trigger_by st x ≡ h
         → cond later (act st x).card.pending (act st x).card.active
         ≡ active_after (trigger_by st x) x (loads_at_trigger st x || later) (cond (loads_before st x || loads_at_trigger st x || later) p a)
-    go (Level l) e =
+    go (Some l) e =
         rw (kept_pending st x l e, shown_active st x l e, before_active st x)
-        (or_else later (loads_at_trigger st x) (cause l (event_by x)) (cond (loads_before st x) p a)
-        ∙ sym (settled (cause l (event_by x)) p a (loads_before st x) (loads_at_trigger st x) later)
-        ∙ ap (λ (h : Holder). active_after h x (loads_at_trigger st x || later) (cond (loads_before st x || loads_at_trigger st x || later) p a)) (sym e))
-    go Nobody e = quiet x e ∙ rw (e, or-false (loads_before st x))
+        (cc (or_else later (loads_at_trigger st x) (cause l (event_by x)) (cond (loads_before st x) p a), settled (cause l (event_by x)) p a (loads_before st x) (loads_at_trigger st x) later))
+    go None e = quiet x e ∙ rw (e, or-false (loads_before st x))
 
 -- ---- after any history
 
 -- what is shown after acts, of what was shown and pending before them
 acts_shown : (st : State) (xs : List Act) → (acts st xs).card.active ≡ last_loaded st xs (cond (loads_in st xs) st.card.pending st.card.active)
 acts_shown st [] = refl
-acts_shown st (x ∷ xs) = acts_shown (act st x) xs ∙ ap (last_loaded (act st x) xs) (act_shown st x (loads_in (act st x) xs))
+acts_shown st (x ∷ xs) = cc (acts_shown (act st x) xs, act_shown st x (loads_in (act st x) xs))
 
 pub reads : (st : State) → active_in st ≡ st.card.active
 reads st = rw (level_register, event_register)
@@ -141,9 +133,11 @@ reads st = rw (level_register, event_register)
 pub active_right : ActiveRight
 unfolding ActiveRight card_reset
 active_right ed s l xs =
-    reads (acts (fresh_of ed s l) xs)
-    ∙ acts_shown (fresh_of ed s l) xs
-    ∙ ap (last_loaded (fresh_of ed s l) xs) (choose (λ (x : Cause). x ≡ at_reset) (loads_in (fresh_of ed s l) xs) at_reset at_reset refl refl)
+    cc (
+      reads (acts (fresh_of ed s l) xs),
+      acts_shown (fresh_of ed s l) xs,
+      choose (λ (x : Cause). x ≡ at_reset) (loads_in (fresh_of ed s l) xs) at_reset at_reset refl refl,
+    )
 
 -- ---- a trigger on its way
 
@@ -151,12 +145,12 @@ quiet_last : (st : State) (xs : List Act) → Quiet st xs → (old : Cause) → 
 quiet_last st [] q old = refl
 quiet_last st (x ∷ xs) q old = quiet_last (act st x) xs q.1 _ ∙ go x q.0.no_trigger q.0.no_reset
   where
-    go : (y : Act) → trigger_by st y ≡ Nobody → is_reset y ≡ false → active_after (trigger_by st y) y (loads_after st y xs) old ≡ old
+    go : (y : Act) → trigger_by st y ≡ None → is_reset y ≡ false → active_after (trigger_by st y) y (loads_after st y xs) old ≡ old
     go (Tick waves event) e f = rw e
     go (Write start count ws) e f = rw e
     go (Ask what) e f = refl
     go (HandIn to ws) e f = refl
-    go (Renew how) e f = absurd (true≢false f)
+    go (Renew how) e f = absurd cc
 
 module _ (st : State) (x : Act) (level : ℕ) (xs : List Act) (h : LastTrigger st x level xs) where
   abbrev t : Cause
@@ -178,17 +172,19 @@ module _ (st : State) (x : Act) (level : ℕ) (xs : List Act) (h : LastTrigger s
   abbrev z : State
   z = acts (act st x) xs
 
-  afterwards : loads_after st x xs ≡ false → (y : Act) (l : ℕ) → trigger_by z y ≡ Level l → loads_before z y ≡ false → (ys : List Act)
+  afterwards : loads_after st x xs ≡ false → (y : Act) (l : ℕ) → trigger_by z y ≡ Some l → loads_before z y ≡ false → (ys : List Act)
       → active_in (acts z (y ∷ ys)) ≡ last_loaded z (y ∷ ys) (active_in (just_before st x))
   afterwards e y l f g ys =
-      reads (acts z (y ∷ ys))
-      ∙ acts_shown z (y ∷ ys)
-      ∙ ap (last_loaded (act z y) ys)
-      (ap (λ (b : Bool). active_after (trigger_by z y) y (loads_after z y ys) (cond (b || loads_in (act z y) ys) z.card.pending z.card.active)) (loads_told z y)
-      ∙ go (trigger_by z y) f (loads_before z y) g (loads_at_trigger z y) (loads_in (act z y) ys)
-      ∙ ap (active_after (trigger_by z y) y (loads_after z y ys)) (sym (reads z) ∙ meanwhile e))
+      cc (
+        reads (acts z (y ∷ ys)),
+        acts_shown z (y ∷ ys),
+        loads_told z y,
+        go (trigger_by z y) f (loads_before z y) g (loads_at_trigger z y) (loads_in (act z y) ys),
+        reads z,
+        meanwhile e,
+      )
     where
-      go : (r : Holder) → r ≡ Level l → (before : Bool) → before ≡ false → (once later : Bool)
+      go : (r : Option ℕ) → r ≡ Some l → (before : Bool) → before ≡ false → (once later : Bool)
           → active_after r y (once || later) (cond (before || once || later) z.card.pending z.card.active) ≡ active_after r y (once || later) z.card.active
       go r f before g once later = rw f (settled (cause l (event_by y)) z.card.pending z.card.active before once later ∙ rw g)
 
@@ -234,7 +230,7 @@ module _ (waves : List ℕ) (st : State) where
       }
 
 -- no trigger, no load at it
-no_trigger_lem : (st : State) (x : Act) → trigger_by st x ≡ Nobody → loads_at_trigger st x ≡ false
+no_trigger_lem : (st : State) (x : Act) → trigger_by st x ≡ None → loads_at_trigger st x ≡ false
 no_trigger_lem st x e = rw e
 
 -- THE FIRST LOAD COMES ON TICK m + 1
@@ -244,16 +240,15 @@ first_load_lem st (Tick waves event ∷ xs) f q zero r = rw (loads_told st (Tick
 first_load_lem st (Tick waves event ∷ xs) f q (suc m) r =
     let e = quiet_tick waves st event q.0.no_trigger in
     rw (loads_told st (Tick waves event), next_waits waves st m r, no_trigger_lem st (Tick waves event) q.0.no_trigger)
-    (first_load_lem (act st (Tick waves event)) xs (rw e (advanced_four waves st)) q.1 m (subst (λ (z : State). First z m) (sym e) (next_first waves st m r))
+    (first_load_lem (act st (Tick waves event)) xs (rw e (advanced_four waves st)) q.1 m (rw e (next_first waves st m r))
     ∙ sym (leb-suc-suc (suc m) (ticks_in xs)))
 first_load_lem st (Write start count ws ∷ xs) f q m r =
     let e = q.0.no_trigger in
     rw (loads_told st (Write start count ws), no_trigger_lem st (Write start count ws) e)
     (first_load_lem (act st (Write start count ws)) xs (write_part 0 (omega arith) st start count ws f e).settled q.1 m
     (same_first st (act st (Write start count ws)) m (λ c h. ap to_start (part_keeps c st _ (write_part c h st start count ws f e)).phase) r))
-first_load_lem st (Ask what ∷ xs) f q m r = first_load_lem st xs f q.1 m r
-first_load_lem st (HandIn to ws ∷ xs) f q m r = first_load_lem st xs f q.1 m r
-first_load_lem st (Renew how ∷ xs) f q m r = absurd (true≢false q.0.no_reset)
+first_load_lem st (Renew how ∷ xs) f q m r = absurd cc
+first_load_lem st (y ∷ xs) f q m r = first_load_lem st xs f q.1 m r
 
 -- one of the four delays is the shortest
 record Shortest (s : List ℕ) (level : ℕ) : Type 0 where
@@ -280,11 +275,8 @@ shortest_one s level = go (eqb (d 0) m) refl (eqb (d 1) m) refl (eqb (d 2) m) re
         last x y z = omega arith
 
 shortest_all : (s : List ℕ) (level c : ℕ) → c < 4 → shortest s level ≤ word s (delay_at c level)
-shortest_all s level zero h = omega arith
-shortest_all s level (suc zero) h = omega arith
-shortest_all s level (suc (suc zero)) h = omega arith
-shortest_all s level (suc (suc (suc zero))) h = omega arith
 shortest_all s level (suc (suc (suc (suc c)))) h = absurd (omega arith)
+shortest_all s level _ h = omega arith
 
 module _ (st : State) (x : Act) (level : ℕ) (xs : List Act) (h : LastTrigger st x level xs) where
   abbrev k : State
@@ -299,9 +291,7 @@ module _ (st : State) (x : Act) (level : ℕ) (xs : List Act) (h : LastTrigger s
 
   at_once : (c : ℕ) → load_among (at_trigger st x c) ≡ loads_at (countdown k.settings c level)
   at_once c =
-      ap (λ (r : Holder). load_among (by_trigger r st.settings c)) h.0
-      ∙ trigger_loads st.settings c level
-      ∙ ap (λ (s : List ℕ). loads_at (countdown s c level)) (sym (struck_settings st x level h.0 ∙ before_settings st x))
+      cc (trigger_loads st.settings c level, struck_settings st x level h.0, before_settings st x)
 
   -- some delay is 10 or less: the load at the trigger itself
   now : m ≤ 10 → loads_at_trigger st x ≡ true
@@ -334,12 +324,12 @@ module _ (st : State) (x : Act) (level : ℕ) (xs : List Act) (h : LastTrigger s
       go false e =
           let i = leb-false m 10 e in
           let d : suc (m - 11) ≡ m - lead = omega arith in
-          rw (not_now i) (first_load_lem k xs four h.1 (m - 11) (first i) ∙ ap (λ (n : ℕ). leb n (ticks_in xs)) d)
+          rw (not_now i) (cc (first_load_lem k xs four h.1 (m - 11) (first i)))
 
 -- ANY OTHER SHOWS ON THE TICK OF ITS FIRST LOAD
 pub shown_on_time : ShownOnTime
 shown_on_time =
     record {
       loads = on_time_lem;
-      shows = λ st x level xs h. shown_while st x level xs h ∙ ap (λ (b : Bool). cond b (cause level (event_by x)) (active_in (just_before st x))) (on_time_lem st x level xs h);
+      shows = λ st x level xs h. cc (shown_while st x level xs h, on_time_lem st x level xs h);
     }

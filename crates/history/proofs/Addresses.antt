@@ -1,6 +1,6 @@
 -- Where each register is: a rule of every row, and the rows of the words that theorems name by their address. Assumes nothing.
 use mathlib.Core.Path.{◌≡◌, refl, sym, ap, ◌∙◌}
-use mathlib.Core.Bool.{Bool, true, false, cond}
+use mathlib.Core.Bool.{Bool, true, false}
 use mathlib.Core.List.{List}
 use Prim.Native.Nat.{ℕ, ◌+◌, ◌-◌, ◌/◌, ◌%◌, ◌≤◌, ◌<◌}
 use native.Mathlib.Omega.{arith}
@@ -13,7 +13,7 @@ use Rattle.map.specs.declared.Field.TheVariants as F
 use Rattle.map.specs.declared.Register.{Register}
 use Rattle.map.specs.declared.Register.TheVariants as R
 use Rattle.map.specs.Map.{Row, Hit, hit, miss, scan, channel_rows, card_rows, base, settings, point, no_row, named_in, register_of}
-use Rattle.map.proofs.Rows.{All, Hits, at, hits, scan_all, in_row_k}
+use Rattle.map.proofs.Rows.{All, hits, scan_all, in_row_k}
 use Rattle.map.proofs.Blocks.{channel_ordered, card_ordered, in_card, channel_register}
 
 -- register r may be at address a
@@ -37,11 +37,7 @@ abbrev SitsBy : (ℕ → ℕ) → (ℕ → Type 0) → Row → Type 0
 SitsBy b In r = (c o : ℕ) → In c → r.region.first + o ≤ r.region.last → Sits (r.meaning c o) (b c + (r.region.first + o))
 
 setting : (fixed : ℕ) (s : ℕ → Setting) (c o a : ℕ) → Sits (settings fixed s c o) a
-setting fixed s c o a = go (ltb o fixed)
-  where
-    go : (b : Bool) → Sits (cond b (R.Fixed (s o)) (R.Setting (s o))) a
-    go true = tt
-    go false = tt
+setting fixed s c o a = grind arith
 
 channel_sits : All (SitsBy base (λ c. c < 4)) channel_rows
 unfolding channel_rows
@@ -59,12 +55,7 @@ card_sits = (
 
 -- the register of an offset in rows that are raised
 row_sits : (b : ℕ → ℕ) (In : ℕ → Type 0) (l : List Row) → All (SitsBy b In) l → (h : Hit) (c x : ℕ) → In c → scan l x ≡ h → Sits (named_in h c x) (b c + x)
-row_sits b In l p (hit r) c x i e = go (hits l x r e)
-  where
-    go : Hits l x r → Sits (r.meaning c (x - r.region.first)) (b c + x)
-    go (at k n y u v) =
-        let d : r.region.first + (x - r.region.first) ≡ x = omega arith in
-        rw d at (scan_all (SitsBy b In) l p x r e c (x - r.region.first) i (omega arith))
+row_sits b In l p (hit r) c x i e = grind (arith, hits, scan_all)
 row_sits b In l p miss c x i e = tt
 
 -- EVERY REGISTER IS AT ITS ADDRESS

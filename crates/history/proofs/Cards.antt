@@ -1,33 +1,21 @@
 -- A card with one channel changed: that channel, and the others; a card with one count changed. Assumes nothing.
 use mathlib.Core.Path.{◌≡◌, refl}
-use mathlib.Core.Bool.{Bool, true, false, cond}
 use Prim.Native.Nat.{ℕ, ◌<◌}
 use native.Mathlib.Omega.{arith}
-use lib.Dec.{ltb, leb}
 use lib.ListN.{length, set, length-set}
 use lib.Seq.{get_or-set_same, get_or-set_other, set_out}
-use borrow.Author.Tests.{lt-ltb, leb-true, leb-false}
+use borrow.Author.Tests.{lt-ltb}
 use Rattle.channel.specs.declared.Channel.{Channel}
 use Rattle.card.specs.declared.Card.{Card}
 use Rattle.card.specs.Card.{no_channel, channel_of, with_channel, with_count}
 
 module _ (k : Card) (c : ℕ) (ch : Channel) where
   pub channel_other : (j : ℕ) → (j ≡ c → ⊥) → channel_of (with_channel k c ch) j ≡ channel_of k j
-  channel_other j d = go (ltb c 4)
-    where
-      go : (b : Bool) → channel_of (cond b (record { edition = k.edition; channels = set k.channels c ch; counts = k.counts; active = k.active; pending = k.pending }) k) j ≡ channel_of k j
-      go true = rw (get_or-set_other k.channels c j ch no_channel d)
-      go false = refl
+  channel_other j d = grind (arith, get_or-set_other)
 
   -- what is so of the new channel and of the old one
   pub channel_either : (P : Channel → Type 0) → P ch → P (channel_of k c) → P (channel_of (with_channel k c ch) c)
-  channel_either P p q = go (ltb c 4) refl (leb (length k.channels) c) refl
-    where
-      go : (b : Bool) → ltb c 4 ≡ b → (d : Bool) → leb (length k.channels) c ≡ d
-          → P (channel_of (cond b (record { edition = k.edition; channels = set k.channels c ch; counts = k.counts; active = k.active; pending = k.pending }) k) c)
-      go true e true f = rw (set_out k.channels c ch (leb-true (length k.channels) c f)) q
-      go true e false f = let g = leb-false (length k.channels) c f in rw (e, get_or-set_same k.channels c ch no_channel g) p
-      go false e d f = q
+  channel_either P p q = grind (arith, set_out, get_or-set_same)
 
   -- the new channel, where the card has four
   pub channel_same : c < 4 → length k.channels ≡ 4 → channel_of (with_channel k c ch) c ≡ ch
@@ -36,11 +24,7 @@ module _ (k : Card) (c : ℕ) (ch : Channel) where
   -- what the new channel leaves as it is in the changed card, it leaves
   pub channel_keeps : {A : Type 0} (f : Card → A) → f (record { edition = k.edition; channels = set k.channels c ch; counts = k.counts; active = k.active; pending = k.pending }) ≡ f k
       → f (with_channel k c ch) ≡ f k
-  channel_keeps f e = go (ltb c 4)
-    where
-      go : (b : Bool) → f (cond b (record { edition = k.edition; channels = set k.channels c ch; counts = k.counts; active = k.active; pending = k.pending }) k) ≡ f k
-      go true = e
-      go false = refl
+  channel_keeps f e = grind arith
 
   pub channel_many : length (with_channel k c ch).channels ≡ length k.channels
   channel_many = channel_keeps (λ (x : Card). length x.channels) (length-set k.channels c ch)
@@ -49,11 +33,7 @@ module _ (k : Card) (level n : ℕ) where
   -- the same of another count
   pub count_keeps : {A : Type 0} (f : Card → A) → f (record { edition = k.edition; channels = k.channels; counts = set k.counts level n; active = k.active; pending = k.pending }) ≡ f k
       → f (with_count k level n) ≡ f k
-  count_keeps f e = go (ltb level 32)
-    where
-      go : (b : Bool) → f (cond b (record { edition = k.edition; channels = k.channels; counts = set k.counts level n; active = k.active; pending = k.pending }) k) ≡ f k
-      go true = e
-      go false = refl
+  count_keeps f e = grind arith
 
   pub count_channels : (with_count k level n).channels ≡ k.channels
   count_channels = count_keeps (λ (x : Card). x.channels) refl

@@ -1,16 +1,16 @@
 -- A channel keeps its rules: a tick goes from a sound phase to a sound phase, and so does a trigger. A ramp comes only to places before
 -- point 63 with samples left, or ends, and runs free only if it was loaded so; a countdown reaches 10 only by a load, which stops the older
 -- ramp. Every sum in range is a word, so the signal is of words. Assumes nothing.
+use Rattle.std.specs.Prelude.{Option, Some, None}
 use mathlib.Core.Path.{◌≡◌, refl, sym, ◌∙◌}
-use mathlib.Core.Bool.{Bool, true, false, cond, true≢false}
+use mathlib.Core.Bool.{Bool, true, false, cond}
 use mathlib.Core.List.{List}
 use Prim.Native.Nat.{ℕ, zero, suc, ◌+◌, ◌*◌, ◌-◌, ◌≤◌, ◌<◌}
 use native.Mathlib.Omega.{arith}
 use native.Mathlib.Nat.{mod-lt}
 use lib.Dec.{ltb, eqb}
-use lib.IntN.{ℤ, pos, negsuc, neg_ℤ}
-use lib.Signed.{lt_z}
-use borrow.Author.Tests.{ltb-true, ltb-false, leb-true, eqb-true, eqb-false}
+use lib.IntN.{ℤ, pos, negsuc}
+use borrow.Author.Tests.{ltb-true, leb-true, eqb-true, eqb-false}
 use Rattle.word.specs.Word.{grown}
 use Rattle.word.specs.Copy.{copied}
 use Rattle.word.specs.Table.{step_at, is_end}
@@ -18,10 +18,7 @@ use Rattle.map.specs.Register.{is_mode}
 use Rattle.map.specs.Addresses.{table_at, ramp_map_at, scale_map_at, scale_at, offset_map_at, offset_at, delay_at, frequency_map_at, frequency_at, phase_map_at, phase_at, enable_at, mode_at}
 use Rattle.map.proofs.Values.{accepted_is}
 use Rattle.sum.specs.declared.Edition.{Edition}
-use Rattle.sum.specs.declared.Sum.{Sum}
-use Rattle.sum.specs.declared.Sum.TheVariants.{Word, Overflow}
-use Rattle.sum.specs.declared.Side.TheVariants.{Below, Within, Above}
-use Rattle.sum.specs.Sample.{side_of, on_side, settled}
+use Rattle.sum.specs.Sample.{side_of, settled}
 use Rattle.wave.specs.Sine.{sine_of}
 use Rattle.channel.specs.declared.Place.{Place}
 use Rattle.channel.specs.declared.Shown.{Shown}
@@ -49,27 +46,19 @@ use Rattle.history.proofs.Words.{set_word}
 
 -- ---- a sample
 
-abbrev SmallSum : Sum → Type 0
-SmallSum (Word v) = v < 65536
-SmallSum Overflow = Unit
+abbrev SmallSum : Option ℕ → Type 0
+SmallSum (Some v) = v < 65536
+SmallSum None = Unit
 
 settled_small : (z : ℤ) → SmallSum (settled z)
 unfolding side_of
-settled_small (pos n) = go (ltb 32767 n) refl
-  where
-    go : (b : Bool) → ltb 32767 n ≡ b → SmallSum (on_side (cond (lt_z (pos n) (neg_ℤ (pos 32768))) Below (cond b Above Within)) (pos n))
-    go true e = tt
-    go false e = omega (arith, ltb-false 32767 n e)
-settled_small (negsuc n) = go (lt_z (negsuc n) (neg_ℤ (pos 32768)))
-  where
-    go : (b : Bool) → SmallSum (on_side (cond b Below Within) (negsuc n))
-    go true = tt
-    go false = omega arith
+settled_small (pos n) = grind arith
+settled_small (negsuc n) = grind arith
 
 -- what is held after a sum is a word, if it was one before
-hold_small : (x : Sum) (n : ℕ) → SmallSum x → n < 65536 → hold x n < 65536
-hold_small (Word v) n e h = e
-hold_small Overflow n e h = h
+hold_small : (x : Option ℕ) (n : ℕ) → SmallSum x → n < 65536 → hold x n < 65536
+hold_small (Some v) n e h = e
+hold_small None n e h = h
 
 grown_small : (n : ℕ) → grown n < 65536
 grown_small n = mod-lt (n + 1) (omega arith)
@@ -81,10 +70,10 @@ GaveSound NoSample = Unit
 GaveSound (OfRamp isFirst x) = SmallSum x
 GaveSound OfFreeRun = Unit
 
-after_sound : (x : Sum) (over : Bool) (n : ℕ) (g : Signal) → SmallSum x → n < 65536 → SignalSound g → SignalSound (signal_after x over n g)
-after_sound (Word v) over n g e m h =
+after_sound : (x : Option ℕ) (over : Bool) (n : ℕ) (g : Signal) → SmallSum x → n < 65536 → SignalSound g → SignalSound (signal_after x over n g)
+after_sound (Some v) over n g e m h =
     record { output = e; overflow = choose (λ (k : ℕ). k < 65536) over _ _ (grown_small g.overflow) h.overflow; counter = m }
-after_sound Overflow over n g e m h = record { output = h.output; overflow = grown_small g.overflow; counter = m }
+after_sound None over n g e m h = record { output = h.output; overflow = grown_small g.overflow; counter = m }
 
 sine_sound : (w : List ℕ) (c n a : ℕ) (over : Bool) (g : Signal) → n < 65536 → SignalSound g → SignalSound (sine_after w c n a over g)
 sine_sound w c n a over g m h = after_sound (sine_of w c n a) over n g (settled_small _) m h
@@ -122,7 +111,7 @@ module _ (w : List ℕ) (first : ℕ) (l : Loaded) where
     gave : GaveSound m.gave
 
   still_right : RampRight l Still
-  still_right = record { sound = tt; free = λ e. absurd (true≢false (sym e)) }
+  still_right = record { sound = tt; free = λ e. absurd cc }
 
   given_sound : (ed : Edition) (isFirst : Bool) (p : Place) (s : Shown) → At p → ShownSound s → MovedSound (given ed isFirst w first l 10 p s)
   unfolding given ended
@@ -145,7 +134,7 @@ module _ (w : List ℕ) (first : ℕ) (l : Loaded) where
           let i : 1 ≤ p.left.0 = omega arith in
           record {
             sound = record { inner = a.placed.inner i; left = i; small = a.small; wait = omega arith; soon = omega arith; period = refl };
-            free = λ u. absurd (true≢false (sym u));
+            free = λ u. absurd cc;
           }
 
   enter_small : (n : ℕ) → ((i : ℕ) → word w i < 65536) → (enter w first n).left.0 < 65536
@@ -224,14 +213,12 @@ quiet_sound x h = record { channel = h.channel; tables = h.tables; gave = tt }
 
 phase_sound : (r : Ramp) → RampSound r → PhaseSound (phase_of r)
 phase_sound Still h = tt
-phase_sound (Going r) h = h
-phase_sound (Free r) h = h
+phase_sound _ h = h
 
 pub ramp_sound : (p : Phase) → PhaseSound p → RampSound (ramp_of p)
 ramp_sound Rest h = tt
 ramp_sound (Counting n older) h = h.ramp
-ramp_sound (Running r) h = h
-ramp_sound (FreeRunning r) h = h
+ramp_sound _ h = h
 
 -- the ramp of a phase that goes on with a ramp
 pub ramp_phase : (r : Ramp) → ramp_of (phase_of r) ≡ r
@@ -312,7 +299,7 @@ module _ (s : List ℕ) (w : Words s) (l : List ℕ) (c : ℕ) (inside : c < 4) 
               scale = w.small (scale_at c (word s (scale_map_at c level)));
               offset = w.small (offset_at c (word s (offset_map_at c level)));
               tone = tone_sound level;
-              free = λ e. absurd (true≢false (sym e));
+              free = λ e. absurd cc;
               shown = record { amplitude = h.shown.amplitude; segment = omega arith; left = omega arith };
               signal = h.signal;
             };
@@ -336,7 +323,7 @@ module _ (s : List ℕ) (w : Words s) (l : List ℕ) (c : ℕ) (inside : c < 4) 
       let m = given_sound l (first_of c) ch.loaded ed true (enter l (first_of c) 0) ch.shown (enter_at l (first_of c) ch.loaded 0 (omega arith) t.small) h.shown in
       choose MoveSound (eqb (word s (enable_at c)) 1) _ _ (moved_sound _ m)
       (quiet_sound (side (with ch Rest ch.shown) l)
-      (record { channel = with_sound ch Rest ch.shown h tt (λ e. absurd (true≢false (sym e))) h.shown; tables = t }))
+      (record { channel = with_sound ch Rest ch.shown h tt (λ e. absurd cc) h.shown; tables = t }))
 
   count_sound : (ed : Edition) (n : ℕ) (older : Ramp) → Countdown n older → (is_free older ≡ true → free_runs ch.loaded.tone.mode ≡ true) → MoveSound (count_to ed (n - 1) older s l c ch)
   unfolding count_to

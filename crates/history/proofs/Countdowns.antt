@@ -1,7 +1,8 @@
 -- Every accepted trigger sets every countdown anew (`countdowns_set`), and until the load an older ramp, or an older free run, goes on as if
 -- no trigger had come (`older_goes_on`). Assumes nothing.
+use Rattle.std.specs.Prelude.{Some, None}
 use mathlib.Core.Path.{◌≡◌, refl, sym, ap, ◌∙◌}
-use mathlib.Core.Bool.{Bool, true, false, cond, true≢false}
+use mathlib.Core.Bool.{Bool, true, false, cond}
 use mathlib.Core.List.{List}
 use Prim.Native.Nat.{ℕ, ◌+◌, ◌*◌, ◌-◌, ◌≤◌, ◌<◌}
 use native.Mathlib.Omega.{arith}
@@ -9,20 +10,19 @@ use lib.ListN.{length}
 use borrow.Author.Tests.{ne_eqb, eqb-true}
 use Rattle.sum.specs.declared.Edition.{Edition}
 use Rattle.sum.specs.declared.Edition.TheVariants.{First}
-use Rattle.slots.specs.declared.Holder.TheVariants.{Level, Nobody}
 use Rattle.channel.specs.declared.Moved.{Moved}
 use Rattle.channel.specs.declared.Shown.{Shown}
 use Rattle.channel.specs.declared.Loaded.{Loaded}
 use Rattle.channel.specs.declared.Ramp.{Ramp}
 use Rattle.channel.specs.declared.Ramp.TheVariants.{Still, Going, Free}
 use Rattle.channel.specs.declared.Phase.{Phase}
-use Rattle.channel.specs.declared.Phase.TheVariants.{Rest, Counting, Running, FreeRunning}
+use Rattle.channel.specs.declared.Phase.TheVariants.{Counting}
 use Rattle.channel.specs.declared.Channel.{Channel}
 use Rattle.channel.specs.Ramp.{next, given, advance}
 use Rattle.channel.specs.Signal.{make_of}
-use Rattle.channel.specs.Channel.{Side, side, moved_on, word, first_of, lead, to_start, loads_at, load, ramp_of, phase_of, going, count_to, move_at, move_of, sounded_side, tick_of, countdown, triggered}
+use Rattle.channel.specs.Channel.{Side, side, moved_on, first_of, lead, to_start, loads_at, load, ramp_of, phase_of, going, count_to, move_at, move_of, sounded_side, tick_of, countdown, triggered}
 use Rattle.card.specs.declared.Card.{Card}
-use Rattle.card.specs.Card.{State, All, channel_of, on_all}
+use Rattle.card.specs.Card.{State, channel_of, on_all}
 use Rattle.card.specs.Trigger.{trigger_of}
 use Rattle.card.specs.Tick.{advanced}
 use Rattle.card.proofs.All.{two_passes}
@@ -55,16 +55,15 @@ triggered_counts s l c ch level = go (loads_at (countdown s c level)) refl
     go false e = refl
 
 -- the settings that a trigger leaves
-same_countdown : (st : State) (x : Act) (level c : ℕ) → trigger_by st x ≡ Level level → countdown (act st x).settings c level ≡ countdown (just_before st x).settings c level
-same_countdown st x level c e = ap (λ (s : List ℕ). countdown s c level) (struck_settings st x level e)
+same_countdown : (st : State) (x : Act) (level c : ℕ) → trigger_by st x ≡ Some level → countdown (act st x).settings c level ≡ countdown (just_before st x).settings c level
+same_countdown st x level c e = cc (struck_settings st x level e)
 
 -- the channel that a trigger leaves
-pub struck_channel : (st : State) (x : Act) (level : ℕ) → trigger_by st x ≡ Level level → (c : ℕ) (h : c < 4)
+pub struck_channel : (st : State) (x : Act) (level : ℕ) → trigger_by st x ≡ Some level → (c : ℕ) (h : c < 4)
     → channel_of (act st x).card c
     ≡ (triggered (just_before st x).settings (trigger_turn (just_before st x) level c h).mid c (channel_of (just_before st x).card c) level).channel
 struck_channel st x level e c h =
-    ap (λ (z : State). channel_of z.card c) (trigger_is st x level e)
-    ∙ sym (trigger_same (just_before st x) level (event_by x) c (trigger_turn (just_before st x) level c h))
+    cc (trigger_is st x level e, trigger_same (just_before st x) level (event_by x) c (trigger_turn (just_before st x) level c h))
 
 -- EVERY ACCEPTED TRIGGER SETS EVERY COUNTDOWN ANEW
 pub countdowns_set : CountdownsSet
@@ -82,11 +81,12 @@ module _ (f : ℕ → List ℕ → Channel → Side)
   turn_table : (y : Turn f beside k l c) → (f c y.mid (channel_of k c)).tables ≡ y.mid → 128 * c + 128 ≤ length l
       → SameTable (on_all f k l).tables (first_of c) l (first_of c)
   turn_table y e room i h =
-      sym (ap (λ (x : Side). word x.tables (first_of c + i)) (y.goes First))
-      ∙ untimed_table First c (f c y.mid (channel_of k c)) y.after y.none_after (omega (arith, ap length e, mid_length f beside k l c y)) i h
-      ∙ ap (λ (t : List ℕ). word t (first_of c + i)) e
-      ∙ sym (ap (λ (x : Side). word x.tables (first_of c + i)) (y.comes First))
-      ∙ untimed_table First c (side (channel_of k c) l) y.before y.none room i h
+      cc (
+        y.goes First,
+        untimed_table First c (f c y.mid (channel_of k c)) y.after y.none_after (omega (arith, ap length e, mid_length f beside k l c y)) i h,
+        y.comes First,
+        untimed_table First c (side (channel_of k c) l) y.before y.none room i h,
+      )
 
 -- ---- a trigger
 
@@ -103,7 +103,7 @@ unfolding triggered
 later_leaves s l c ch level h =
     rw (ne_eqb (countdown s c level) lead (λ d. absurd (omega arith))) (record { ramp = refl; loaded = refl; shown = refl; signal = refl; tables = refl })
 
-module _ (st : State) (x : Act) (level : ℕ) (e : trigger_by st x ≡ Level level) (c : ℕ) (h : c < 4) (far : lead < countdown (act st x).settings c level) where
+module _ (st : State) (x : Act) (level : ℕ) (e : trigger_by st x ≡ Some level) (c : ℕ) (h : c < 4) (far : lead < countdown (act st x).settings c level) where
   abbrev k : State
   k = just_before st x
 
@@ -116,9 +116,10 @@ module _ (st : State) (x : Act) (level : ℕ) (e : trigger_by st x ≡ Level lev
   trigger_table : 512 ≤ length st.tables → SameTable (act st x).tables (first_of c) k.tables (first_of c)
   unfolding trigger_of
   trigger_table room i g =
-      ap (λ (z : State). word z.tables (first_of c + i)) (trigger_is st x level e)
-      ∙ turn_table (λ b l ch. triggered k.settings l b ch level) (λ b d l ch o. trigger_elsewhere k.settings l b d ch o level) k.card k.tables c y
-      leaves.tables (omega (arith, before_room st x)) i g
+      cc (
+        trigger_is st x level e,
+        turn_table (λ b l ch. triggered k.settings l b ch level) (λ b d l ch o. trigger_elsewhere k.settings l b d ch o level) k.card k.tables c y leaves.tables (omega (arith, before_room st x)) i g,
+      )
 
   -- what it leaves of the channel, it leaves of the card's
   trigger_leaves : {A : Type 0} (of : Channel → A) → of (triggered k.settings y.mid c (channel_of k.card c) level).channel ≡ of (channel_of k.card c)
@@ -144,13 +145,12 @@ module _ (st : State) (x : Act) (level : ℕ) (e : trigger_by st x ≡ Level lev
 module _ (ed : Edition) (l m : List ℕ) (c : ℕ) (same : SameTable m (first_of c) l (first_of c)) (ld : Loaded) (s : Shown) where
   same_advance : (r : Ramp) → RampSound r → advance ed m (first_of c) ld r s ≡ advance ed l (first_of c) ld r s
   unfolding advance given
-  same_advance Still h = refl
   same_advance (Going r) h =
       rw (
         same_next m (first_of c) l (first_of c) same r.place h.inner,
         same_sample m (first_of c) l (first_of c) same ed ld (next l (first_of c) r.place) (placed_next l (first_of c) r.place h.inner),
       )
-  same_advance (Free r) h = refl
+  same_advance _ h = refl
 
 -- what one tick makes of a channel's ramp and of its value, over the tables l
 abbrev step : Edition → List ℕ → ℕ → Channel → Moved
@@ -171,9 +171,7 @@ module _ (ed : Edition) (w s l : List ℕ) (c : ℕ) (ch : Channel) where
   counting_moves (Counting n older) e h =
       rw (ne_eqb (n.0 - 1) 0 (λ d. absurd (omega arith)), ne_eqb (n.0 - 1) lead (λ d. absurd (omega arith)))
       (record { ramp = rw e; shown = rw e; signal = rw e; loaded = refl; tables = refl })
-  counting_moves Rest e h = absurd (omega arith)
-  counting_moves (Running r) e h = absurd (omega arith)
-  counting_moves (FreeRunning r) e h = absurd (omega arith)
+  counting_moves _ e h = absurd (omega arith)
 
   -- with none
   on_moves : (r : Ramp) → ramp_of ch.phase ≡ r → Moves ed w l c ch (sounded_side w c (moved_on ch l (advance ed l (first_of c) ch.loaded r ch.shown)))
@@ -181,9 +179,9 @@ module _ (ed : Edition) (w s l : List ℕ) (c : ℕ) (ch : Channel) where
 
   going_moves : (r : Ramp) → going r ≡ true → (p : Phase) → ch.phase ≡ p → p ≡ phase_of r → Moves ed w l c ch (sounded_side w c (move_at ed p s l c ch))
   unfolding move_at
-  going_moves Still g p e f = absurd (true≢false (sym g))
-  going_moves (Going v) g p e f = rw f (on_moves (Going v) (ap ramp_of (e ∙ f)))
-  going_moves (Free v) g p e f = rw f (on_moves (Free v) (ap ramp_of (e ∙ f)))
+  going_moves Still g p e f = absurd cc
+  going_moves (Going v) g p e f = rw f (on_moves (Going v) cc)
+  going_moves (Free v) g p e f = rw f (on_moves (Free v) cc)
 
 module _ (waves : List ℕ) (st : State) (h : Sound st) (c : ℕ) (inside : c < 4) where
   abbrev ch : Channel
@@ -195,9 +193,10 @@ module _ (waves : List ℕ) (st : State) (h : Sound st) (c : ℕ) (inside : c < 
   tick_table : (tick_of st.card.edition st.settings waves turn.mid c ch).tables ≡ turn.mid → SameTable (advanced waves st).tables (first_of c) st.tables (first_of c)
   unfolding advanced
   tick_table e i g =
-      ap (λ (x : All). word x.tables (first_of c + i)) (two_passes waves st)
-      ∙ turn_table (λ b l ch. tick_of st.card.edition st.settings waves l b ch) (λ b d l ch o. tick_elsewhere st.settings l b d ch o st.card.edition waves) st.card st.tables c turn e
-      (omega (arith, h.tables.many)) i g
+      cc (
+        two_passes waves st,
+        turn_table (λ b l ch. tick_of st.card.edition st.settings waves l b ch) (λ b d l ch o. tick_elsewhere st.settings l b d ch o st.card.edition waves) st.card st.tables c turn e (omega (arith, h.tables.many)) i g,
+      )
 
   goes : Moves st.card.edition waves turn.mid c ch (sounded_side waves c (move_of st.card.edition st.settings turn.mid c ch)) → GoesOn waves c st (advanced waves st)
   unfolding tick_of
@@ -209,7 +208,7 @@ module _ (waves : List ℕ) (st : State) (h : Sound st) (c : ℕ) (inside : c < 
             ap (λ (x : Channel). x.signal) (sym (tick_same waves st c turn))
             ∙ m.signal
             ∙ ap (λ (x : Moved). make_of waves c x.gave ch.loaded.tone x.shown.amplitude ch.signal) e;
-        loaded = ap (λ (x : Channel). x.loaded) (sym (tick_same waves st c turn)) ∙ m.loaded;
+        loaded = cc (tick_same waves st c turn);
         table = tick_table m.tables;
       }
     where
@@ -225,7 +224,7 @@ module _ (waves : List ℕ) (st : State) (h : Sound st) (c : ℕ) (inside : c < 
 
 -- ---- a write
 
-write_keeps_ramp : (st : State) → Sound st → (start count : ℕ) (ws : List ℕ) → trigger_by st (Write start count ws) ≡ Nobody → (c : ℕ) → c < 4
+write_keeps_ramp : (st : State) → Sound st → (start count : ℕ) (ws : List ℕ) → trigger_by st (Write start count ws) ≡ None → (c : ℕ) → c < 4
     → RampKept c st (act st (Write start count ws))
 write_keeps_ramp st h start count ws e c i =
     let p = write_part c i st start count ws h.card.four e in
@@ -233,7 +232,7 @@ write_keeps_ramp st h start count ws e c i =
     record {
       ramp = ap ramp_of r.phase;
       loaded = r.loaded;
-      table = λ n g. ap (λ (x : Side). word x.tables (first_of c + n)) (sym (p.runs st.card.edition)) ∙ untimed_table st.card.edition c (side_at st c) p.acts p.none (omega (arith, h.tables.many)) n g;
+      table = λ n g. cc (p.runs st.card.edition, untimed_table st.card.edition c (side_at st c) p.acts p.none (omega (arith, h.tables.many)) n g);
     }
 
 -- UNTIL THE LOAD AN OLDER RAMP GOES ON

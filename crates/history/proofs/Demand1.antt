@@ -1,13 +1,12 @@
 -- Demand 1, of its parts; 7 by who holds the event. Assumes nothing.
-use mathlib.Core.Path.{◌≡◌, refl, sym, ◌∙◌}
-use mathlib.Core.Bool.{Bool, true, false, not, ◌&&◌, true≢false}
+use Rattle.std.specs.Prelude.{Option, Some, None}
+use mathlib.Core.Path.{◌≡◌, refl}
+use mathlib.Core.Bool.{Bool, true, false, not, ◌&&◌}
 use mathlib.Core.List.{List}
 use Prim.Native.Nat.{ℕ}
 use lib.Dec.{eqb}
 use borrow.Author.Tests.{ne_eqb, eqb-false}
 use Rattle.map.specs.declared.Register.TheVariants as R
-use Rattle.slots.specs.declared.Holder.{Holder}
-use Rattle.slots.specs.declared.Holder.TheVariants.{Level, Nobody}
 use Rattle.slots.specs.Slots.{other_of}
 use Rattle.slots.proofs.Holders.{level_held, held_some}
 use Rattle.transfer.specs.Word.{is_level, held_at}
@@ -23,8 +22,8 @@ module _ (s : List ℕ) (level event : ℕ) where
   held : held_at s (R.Slot level) event ≡ true → HeldElsewhere s level event
   held = go (eqb event 0xFE) refl (other_of s event level) refl
     where
-      go : (b : Bool) → eqb event 0xFE ≡ b → (h : Holder) → other_of s event level ≡ h → not b && is_level h ≡ true → HeldElsewhere s level event
-      go false e (Level m) f g =
+      go : (b : Bool) → eqb event 0xFE ≡ b → (h : Option ℕ) → other_of s event level ≡ h → not b && is_level h ≡ true → HeldElsewhere s level event
+      go false e (Some m) f g =
           let y = level_held s event level m f in
           record {
             real = eqb-false event 0xFE e;
@@ -32,12 +31,12 @@ module _ (s : List ℕ) (level event : ℕ) where
             different = y.other;
             held = record { slot = y.slot; inside = y.inside; of = y.level; holds = y.stored };
           }
-      go false e Nobody f g = absurd (true≢false (sym g))
-      go true e h f g = absurd (true≢false (sym g))
+      go false e None f g = absurd cc
+      go true e h f g = absurd cc
 
   held_only : HeldElsewhere s level event → held_at s (R.Slot level) event ≡ true
   held_only h =
-      let y = held_some s event level h.held.slot h.held.inside h.held.holds (λ e. h.different (sym h.held.of ∙ e)) in
+      let y = held_some s event level h.held.slot h.held.inside h.held.holds (λ e. h.different cc) in
       rw (ne_eqb event 0xFE h.real, y.is)
 
 -- DEMAND 1

@@ -1,16 +1,12 @@
 -- Demand 3 holds of the card (`demand3_card`): a history without triggers is tracked by acts of channel c, and so demand 3 of one channel,
 -- proved in `course`, is that of the card's channel. Assumes nothing.
-use mathlib.Core.Path.{◌≡◌, refl, sym, ap, fun_ext, ◌∙◌}
-use mathlib.Core.Bool.{Bool, true, false}
+use mathlib.Core.Path.{◌≡◌, refl, sym, fun_ext, ◌∙◌}
 use mathlib.Core.List.{List, ◌++◌}
 use Prim.Native.Nat.{ℕ, zero, suc, ◌+◌, ◌*◌, ◌-◌, ◌≤◌, ◌<◌}
 use native.Mathlib.Omega.{arith}
-use lib.Dec.{leb}
 use lib.ListN.{length}
-use borrow.Author.Tests.{leb-true, leb-false}
 use Rattle.sum.specs.declared.Edition.{Edition}
 use Rattle.map.specs.Addresses.{enable_at}
-use Rattle.channel.specs.declared.Channel.{Channel}
 use Rattle.channel.specs.Channel.{Side, side, word, countdown, triggered, tick_of}
 use Rattle.card.specs.Card.{State, channel_of}
 use Rattle.card.specs.Trigger.{trigger_of}
@@ -77,11 +73,11 @@ module _ (ed : Edition) (c : ℕ) (inside : c < 4) (from : State) (level event :
   room_mid : 512 ≤ length from.tables → 128 * c + 128 ≤ length y.mid
   room_mid h =
       let e : length y.mid ≡ length from.tables =
-      ap (λ (x : Side). length x.tables) (sym (y.comes ed)) ∙ run_length ed c (side (channel_of from.card c) from.tables) y.before in
+      cc (y.comes ed, run_length ed c (side (channel_of from.card c) from.tables) y.before) in
       omega arith
 
   settings_same : s ≡ k.settings
-  settings_same = sym (ap (λ (x : State). x.settings) is ∙ trigger_settings from level event)
+  settings_same = cc (is, trigger_settings from level event)
 
   held_zs : (n : ℕ) → C.held_on s z n zs ≡ (acts k (until n xs)).settings
   held_zs zero = settings_same
@@ -98,19 +94,17 @@ module _ (ed : Edition) (c : ℕ) (inside : c < 4) (from : State) (level event :
 
   runs_zs : C.run ed c set_off zs ≡ side_at (acts k xs) c
   runs_zs =
-      run_append ed c set_off y.after r.doings
-      ∙ ap (λ (x : Side). C.run ed c x r.doings) (trigger_goes from level event c y ed ∙ ap (λ (x : State). side_at x c) (sym is))
-      ∙ r.runs
+      cc (run_append ed c set_off y.after r.doings, trigger_goes from level event c y ed, is)
 
   runs_all : C.run ed c set_off all ≡ side (channel_of (acts k xs).card c) w.mid
-  runs_all = run_append ed c set_off zs w.before ∙ ap (λ (x : Side). C.run ed c x w.before) runs_zs ∙ w.comes ed
+  runs_all = cc (run_append ed c set_off zs w.before, runs_zs, w.comes ed)
 
   -- the tick is one of this edition
   tick_own : (tick_of ed z waves w.mid c (channel_of (acts k xs).card c)).channel ≡ channel_of (advanced waves (acts k xs)).card c
-  tick_own = ap (λ (i : Edition). (tick_of i z waves w.mid c (channel_of (acts k xs).card c)).channel) (sym own) ∙ tick_same waves (acts k xs) c w
+  tick_own = cc (own, tick_same waves (acts k xs) c w)
 
   same_delay : countdown s c level ≡ countdown k.settings c level
-  same_delay = ap (λ (u : List ℕ). countdown u c level) settings_same
+  same_delay = cc settings_same
 
   -- demand 3 of the channel after the acts ys, where their settings, ticks and side are the card's
   by_channel : 512 ≤ length from.tables → (ys : List C.Act) (now : Side) → ((n : ℕ) → C.held_on s z n ys ≡ (acts k (until n xs)).settings)
@@ -121,8 +115,8 @@ module _ (ed : Edition) (c : ℕ) (inside : c < 4) (from : State) (level event :
   by_channel h ys now f t e =
       same_later
       (same_follows ed c level _ _ _ _ _ _ _ _ waves _ _ _ same_delay
-      (f (countdown s c level - 10) ∙ ap (λ (n : ℕ). (acts k (until (n - 10) xs)).settings) same_delay)
-      (ap (λ (u : List ℕ). word u (enable_at c)) (f (countdown s c level) ∙ ap (λ (n : ℕ). (acts k (until n xs)).settings) same_delay))
+      (cc (f (countdown s c level - 10), same_delay))
+      (cc (f (countdown s c level), same_delay))
       t e
       (trigger_followed ed s y.mid c (channel_of from.card c) level (room_mid h) ys z waves))
     where
@@ -135,7 +129,7 @@ module _ (ed : Edition) (c : ℕ) (inside : c < 4) (from : State) (level event :
       (word (acts k (until (countdown k.settings c level) xs)).settings (enable_at c)) (ticks_in xs) waves (side_at (acts k xs) c) (side_at later c)
   follows h later e =
       join ed c level _ _ _ _ waves (side_at (acts k xs) c) _ (side (channel_of (acts k xs).card c) w.mid) _ (side_at later c) refl
-      (tick_own ∙ ap (λ (x : State). channel_of x.card c) (sym e))
+      (cc tick_own)
       (by_channel h zs (side_at (acts k xs) c) held_zs ticks_zs runs_zs)
       (by_channel h all (side (channel_of (acts k xs).card c) w.mid) held_all ticks_all runs_all)
 
@@ -143,24 +137,11 @@ module _ (ed : Edition) (c : ℕ) (inside : c < 4) (from : State) (level event :
 
   passes_zs : (n : ℕ) → (C.run ed c set_off (C.until (suc n) zs)).channel ≡ channel_of (acts k (until (suc n) xs)).card c
   passes_zs n =
-      ap (λ (ys : List C.Act). (C.run ed c set_off ys).channel) (until_untimed n y.after r.doings y.none_after)
-      ∙ ap (λ (x : Side). x.channel)
-      (run_append ed c set_off y.after (C.until (suc n) r.doings)
-      ∙ ap (λ (x : Side). C.run ed c x (C.until (suc n) r.doings)) (trigger_goes from level event c y ed ∙ ap (λ (x : State). side_at x c) (sym is)))
-      ∙ r.passes n
+      cc (until_untimed n y.after r.doings y.none_after, run_append ed c set_off y.after (C.until (suc n) r.doings), trigger_goes from level event c y ed, is, r.passes n)
 
   -- before the tick's turn: where the acts have no n-th tick, they are all before it
   passes_all : (n : ℕ) → (C.run ed c set_off (C.until (suc n) all)).channel ≡ channel_of (acts k (until (suc n) xs)).card c
-  passes_all n = go (leb (suc n) (C.ticks_in zs)) refl
-    where
-      go : (b : Bool) → leb (suc n) (C.ticks_in zs) ≡ b → (C.run ed c set_off (C.until (suc n) all)).channel ≡ channel_of (acts k (until (suc n) xs)).card c
-      go true e = ap (λ (ys : List C.Act). (C.run ed c set_off ys).channel) (before_first n zs w.before (leb-true (suc n) (C.ticks_in zs) e)) ∙ passes_zs n
-      go false e =
-          let f = leb-false (suc n) (C.ticks_in zs) e in
-          ap (λ (ys : List C.Act). (C.run ed c set_off ys).channel) (before_all n all (omega (arith, ticks_all, ticks_zs)))
-          ∙ ap (λ (x : Side). x.channel) (runs_all ∙ ap (λ (x : Side). side x.channel w.mid) (sym runs_zs))
-          ∙ ap (λ (ys : List C.Act). (C.run ed c set_off ys).channel) (sym (before_all n zs (omega arith)))
-          ∙ passes_zs n
+  passes_all n = grind (arith, before_first, passes_zs, before_all, ticks_all, ticks_zs, runs_all)
 
   waves_zs : (n : ℕ) → C.waves_on waves (suc n) zs ≡ waves_on waves (suc n) xs
   waves_zs n = waves_untimed waves n y.after r.doings y.none_after ∙ r.waves waves n
@@ -188,7 +169,7 @@ module _ (ed : Edition) (c : ℕ) (inside : c < 4) (from : State) (level event :
         sym e,
       )
       (outputs_follow ed s y.mid c (channel_of from.card c) level (room_mid h) ys z waves
-      (ap (λ (v : List ℕ). word v (enable_at c)) (f (countdown s c level) ∙ ap (λ (n : ℕ). (acts k (until n xs)).settings) same_delay) ∙ on))
+      (cc (f (countdown s c level), same_delay, on)))
     where
       at_start : (n : ℕ) → 1 ≤ n → (C.run ed c set_off (C.until n ys)).channel ≡ channel_of (acts k (until n xs)).card c
       at_start zero i = absurd (omega arith)
@@ -213,12 +194,12 @@ module _ (ed : Edition) (c : ℕ) (inside : c < 4) (from : State) (level event :
       record {
         amplitude = p.amplitude;
         output = p.output;
-        just_amplitude = λ j i g. ap (λ (ch : Channel). ch.shown.amplitude) same_later ∙ q.just_amplitude j i g;
-        just_output = λ j i g. ap (λ (ch : Channel). ch.signal.output) same_later ∙ q.just_output j i g;
+        just_amplitude = λ j i g. cc (same_later, q.just_amplitude j i g);
+        just_output = λ j i g. cc (same_later, q.just_output j i g);
       }
     where
       same_later : channel_of later.card c ≡ (C.act ed c (side (channel_of (acts k xs).card c) w.mid) (C.Tick z waves)).channel
-      same_later = ap (λ (x : State). channel_of x.card c) e ∙ sym tick_own
+      same_later = cc tick_own
 
 -- DEMAND 3 OF THE CARD
 pub demand3_card : Demand3

@@ -1,11 +1,10 @@
 -- Only a fresh card has an edition of its own: a tick changes none, a word done does not, and a reset keeps it (`edition_kept`). Assumes nothing.
-use mathlib.Core.Path.{◌≡◌, refl, ap, ◌∙◌}
-use mathlib.Core.Bool.{true≢false, false}
+use Rattle.std.specs.Prelude.{Option, Some, None}
+use mathlib.Core.Path.{◌≡◌, refl, ◌∙◌}
+use mathlib.Core.Bool.{false}
 use mathlib.Core.List.{List, [], ◌∷◌}
 use Prim.Native.Nat.{ℕ, zero, suc}
 use Rattle.map.specs.Map.{register_of}
-use Rattle.slots.specs.declared.Holder.{Holder}
-use Rattle.slots.specs.declared.Holder.TheVariants.{Level, Nobody}
 use Rattle.channel.specs.declared.Channel.{Channel}
 use Rattle.card.specs.declared.Card.{Card}
 use Rattle.card.specs.Card.{State, with_channel, with_channels, with_count}
@@ -13,7 +12,7 @@ use Rattle.card.specs.Trigger.{struck, trigger_of, accepted_of, on_event}
 use Rattle.card.specs.Tick.{advanced, tick_with, ticks}
 use Rattle.card.specs.Reset.{card_reset}
 use Rattle.transfer.specs.declared.Effect.{Effect}
-use Rattle.transfer.specs.declared.Effect.TheVariants.{Keep, Output, ClearOverflow, ClearCount, Erase, Trigger, Nothing}
+use Rattle.transfer.specs.declared.Effect.TheVariants.{Output, ClearOverflow, ClearCount, Trigger}
 use Rattle.transfer.specs.Word.{effect_of, perform_of}
 use Rattle.transfer.specs.Transfer.{write_of}
 use Rattle.history.specs.History.{Act, Tick, Write, Ask, HandIn, Renew, act, acts, is_reset, Quiet}
@@ -40,9 +39,9 @@ advanced_edition w st = refl
 pub tick_edition : (w : List ℕ) (st : State) (event : ℕ) → (tick_with w st event).card.edition ≡ st.card.edition
 tick_edition w st event = go (accepted_of (advanced w st).settings event)
   where
-    go : (h : Holder) → (on_event h (advanced w st) event).card.edition ≡ st.card.edition
-    go (Level level) = trigger_edition (advanced w st) level event ∙ advanced_edition w st
-    go Nobody = advanced_edition w st
+    go : (h : Option ℕ) → (on_event h (advanced w st) event).card.edition ≡ st.card.edition
+    go (Some level) = trigger_edition (advanced w st) level event ∙ advanced_edition w st
+    go None = advanced_edition w st
 
 pub ticks_edition : (w : List ℕ) (n : ℕ) (st : State) → (ticks w n st).card.edition ≡ st.card.edition
 unfolding ticks
@@ -52,13 +51,11 @@ ticks_edition w (suc n) st = ticks_edition w n (advanced w st) ∙ advanced_edit
 -- ---- words done
 
 done_edition : (st : State) (a : ℕ) (e : Effect) → (perform_of st a e).card.edition ≡ st.card.edition
-done_edition st a (Keep v) = refl
 done_edition st a (Output c v) = channel_edition st.card c _
 done_edition st a (ClearOverflow c) = channel_edition st.card c _
 done_edition st a (ClearCount level) = count_edition st.card level 0
-done_edition st a Erase = refl
 done_edition st a (Trigger level) = trigger_edition st level 0xFE
-done_edition st a Nothing = refl
+done_edition st a _ = refl
 
 pub write_edition : (st : State) (start count : ℕ) (ws : List ℕ) → (write_of st start count ws).state.card.edition ≡ st.card.edition
 write_edition = write_by (λ st a vs z. z.card.edition ≡ st.card.edition) (λ st a. refl) (λ st a v vs z p e. e ∙ done_edition st a (effect_of (register_of a) v))
@@ -69,13 +66,11 @@ pub act_edition : (st : State) (x : Act) → (act st x).card.edition ≡ edition
 unfolding card_reset
 act_edition st (Tick waves event) = tick_edition waves st event
 act_edition st (Write start count ws) = write_edition st start count ws
-act_edition st (Ask what) = refl
-act_edition st (HandIn to ws) = refl
-act_edition st (Renew how) = refl
+act_edition st _ = refl
 
 acts_edition : (st : State) (xs : List Act) → (acts st xs).card.edition ≡ last_chosen xs st.card.edition
 acts_edition st [] = refl
-acts_edition st (x ∷ xs) = acts_edition (act st x) xs ∙ ap (last_chosen xs) (act_edition st x)
+acts_edition st (x ∷ xs) = cc (acts_edition (act st x) xs, act_edition st x)
 
 -- with no reset and no fresh card among them it stays
 pub quiet_edition : (st : State) (xs : List Act) → Quiet st xs → (acts st xs).card.edition ≡ st.card.edition
@@ -87,7 +82,7 @@ quiet_edition st (x ∷ xs) q = quiet_edition (act st x) xs q.1 ∙ act_edition 
     go (Write start count ws) e = refl
     go (Ask what) e = refl
     go (HandIn to ws) e = refl
-    go (Renew how) e = absurd (true≢false e)
+    go (Renew how) e = absurd cc
 
 -- CHOSEN WITH THE FRESH CARD, THE EDITION STAYS
 pub edition_kept : EditionKept

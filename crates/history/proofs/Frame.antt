@@ -16,7 +16,7 @@ use Rattle.card.specs.declared.Card.{Card}
 use Rattle.card.specs.Card.{State, state, channel_of, with_channel, on_all}
 use Rattle.card.specs.Trigger.{trigger_of}
 use Rattle.transfer.specs.declared.Effect.{Effect}
-use Rattle.transfer.specs.declared.Effect.TheVariants.{Keep, Output, ClearOverflow, ClearCount, Erase, Trigger, Nothing}
+use Rattle.transfer.specs.declared.Effect.TheVariants.{Keep, Erase, Trigger}
 use Rattle.transfer.specs.Word.{effect_of, perform_of}
 use Rattle.course.proofs.Copies.{trigger_length}
 use Rattle.history.specs.Frame.{InBlock, But, Frame, SameLengths, LengthsKept}
@@ -50,15 +50,15 @@ pub but_then : (c : ℕ) (x y z : State) → But c x y → But c y z → But c x
 but_then c x y z p q =
     record {
       others = λ j d. q.others j d ∙ p.others j d;
-      phase = q.phase ∙ p.phase;
-      level = q.level ∙ p.level;
-      loaded = q.loaded ∙ p.loaded;
-      place = q.place ∙ p.place;
-      counter = q.counter ∙ p.counter;
-      counts = q.counts ∙ p.counts;
-      active = q.active ∙ p.active;
-      pending = q.pending ∙ p.pending;
-      tables = q.tables ∙ p.tables;
+      phase = cc;
+      level = cc;
+      loaded = cc;
+      place = cc;
+      counter = cc;
+      counts = cc;
+      active = cc;
+      pending = cc;
+      tables = cc;
       settings = λ a d. q.settings a d ∙ p.settings a d;
     }
 
@@ -92,13 +92,7 @@ module _ (c : ℕ) (x : State) where
   but_done (R.Status d f) a v o i = but_none c x
   but_done (R.Overflow d) a v o i = rw o (but_shown (overflow_cleared (channel_of x.card c)) refl refl refl refl refl)
   but_done R.Unlisted a v o i = but_none c x
-  but_done (R.Slot _) a v o i = elim o [ ]
-  but_done (R.Image _) a v o i = elim o [ ]
-  but_done R.Erase a v o i = elim o [ ]
-  but_done R.Manual a v o i = elim o [ ]
-  but_done R.ActiveLevel a v o i = elim o [ ]
-  but_done R.ActiveEvent a v o i = elim o [ ]
-  but_done (R.Count _) a v o i = elim o [ ]
+  but_done _ a v o i = elim o [ ]
 
 -- A WRITE IN CHANNEL c'S BLOCK TOUCHES THAT CHANNEL ALONE
 pub frame : Frame
@@ -113,7 +107,7 @@ frame c h st start count ws i =
 -- ---- the lengths
 
 same_then : (x y z : State) → SameLengths x y → SameLengths y z → SameLengths x z
-same_then x y z p q = record { settings = q.settings ∙ p.settings; tables = q.tables ∙ p.tables }
+same_then x y z p q = record { settings = cc; tables = cc }
 
 pub trigger_lengths : (x : State) (level event : ℕ) → SameLengths x (trigger_of x level event)
 unfolding trigger_of on_all
@@ -129,12 +123,9 @@ trigger_lengths x level event =
 
 pub lengths_done : (x : State) (a : ℕ) (e : Effect) → SameLengths x (perform_of x a e)
 lengths_done x a (Keep v) = record { settings = length-set x.settings a v; tables = refl }
-lengths_done x a (Output c v) = record { settings = refl; tables = refl }
-lengths_done x a (ClearOverflow c) = record { settings = refl; tables = refl }
-lengths_done x a (ClearCount level) = record { settings = refl; tables = refl }
 lengths_done x a Erase = record { settings = erased_length x.settings; tables = refl }
 lengths_done x a (Trigger level) = trigger_lengths x level 0xFE
-lengths_done x a Nothing = record { settings = refl; tables = refl }
+lengths_done x a _ = record { settings = refl; tables = refl }
 
 -- A WRITE KEEPS THE LENGTHS
 pub lengths_kept : LengthsKept

@@ -1,14 +1,13 @@
 -- What a tick gives, what is told of it, and what the second pass makes of it: where no sum is out of range, nothing out of range is told
 -- (`in_told`), and A39 stays or counts a product of the sine (`made_in`). Assumes nothing.
+use Rattle.std.specs.Prelude.{Option, Some, None}
 use mathlib.Core.Path.{◌≡◌, refl}
-use mathlib.Core.Bool.{Bool, true, false, cond, true≢false}
+use mathlib.Core.Bool.{Bool, true, false, cond}
 use mathlib.Core.Logic.{◌⊎◌, inl, inr}
 use mathlib.Core.List.{List, [], ◌∷◌}
 use Prim.Native.Nat.{ℕ, ◌-◌}
 use lib.Dec.{ltb, eqb}
 use Rattle.sum.specs.declared.Edition.{Edition}
-use Rattle.sum.specs.declared.Sum.{Sum}
-use Rattle.sum.specs.declared.Sum.TheVariants.{Word, Overflow}
 use Rattle.wave.specs.Sine.{sine_of}
 use Rattle.map.specs.Addresses.{enable_at}
 use Rattle.word.specs.Word.{grown, lasting}
@@ -41,7 +40,7 @@ GaveIn t OfFreeRun = is_sine t.mode ≡ true
 pub data Tells : Gave → List Happening → Type 0 where
   nothing : Tells NoSample []
   loaded : (ld : Loaded) → Tells NoSample (Load ld ∷ [])
-  sampled : (w : List ℕ) (f : Bool) (p : Place) (u : Sum) → Tells (OfRamp f u) (Sample w f p u ∷ [])
+  sampled : (w : List ℕ) (f : Bool) (p : Place) (u : Option ℕ) → Tells (OfRamp f u) (Sample w f p u ∷ [])
   freed : (w : List ℕ) → Tells OfFreeRun (FreeSample w ∷ [])
 
 module _ (ed : Edition) (w z l : List ℕ) (c : ℕ) (ch : Channel) where
@@ -116,16 +115,16 @@ sample_told _ _ (freed w) h = refl
 module _ (c : ℕ) (w : List ℕ) where
   pub record Product (t : Tone) (a : ℕ) (y z : Signal) : Type 0 where
     pub sine : is_sine t.mode ≡ true
-    pub product : sine_of w c z.counter a ≡ Overflow
+    pub product : sine_of w c z.counter a ≡ None
     pub grows : z.overflow ≡ grown y.overflow
 
   sine_in : (t : Tone) → is_sine t.mode ≡ true → (n a : ℕ) (y : Signal)
       → ((sine_after w c n a false y).overflow ≡ y.overflow) ⊎ Product t a y (sine_after w c n a false y)
   sine_in t h n a y = go (sine_of w c n a) refl
     where
-      go : (r : Sum) → sine_of w c n a ≡ r → ((signal_after r false n y).overflow ≡ y.overflow) ⊎ Product t a y (signal_after r false n y)
-      go (Word d) e = inl refl
-      go Overflow e = inr (record { sine = h; product = e; grows = refl })
+      go : (r : Option ℕ) → sine_of w c n a ≡ r → ((signal_after r false n y).overflow ≡ y.overflow) ⊎ Product t a y (signal_after r false n y)
+      go (Some d) e = inl refl
+      go None e = inr (record { sine = h; product = e; grows = refl })
 
   -- the sample g is given
   abbrev pub Made : Gave → Tone → ℕ → Signal → Signal → Type 0
@@ -138,13 +137,13 @@ module _ (c : ℕ) (w : List ℕ) where
   pub made_in : (g : Gave) (t : Tone) → GaveIn t g → (a : ℕ) (y : Signal) → Made g t a y (make_of w c g t a y)
   unfolding make_of
   made_in NoSample t h a y = inl refl
-  made_in (OfRamp f (Word d)) t h a y = go (is_sine t.mode) refl
+  made_in (OfRamp f (Some d)) t h a y = go (is_sine t.mode) refl
     where
       go : (b : Bool) → is_sine t.mode ≡ b
-          → Made (OfRamp f (Word d)) t a y (cond b (sine_after w c (counter_at f t y.counter) a false y) (signal_after (Word d) false y.counter y))
+          → Made (OfRamp f (Some d)) t a y (cond b (sine_after w c (counter_at f t y.counter) a false y) (signal_after (Some d) false y.counter y))
       go true e = given_so (sine_in t e (counter_at f t y.counter) a y)
       go false e = inl refl
-  made_in (OfRamp f Overflow) t h a y = absurd (true≢false h)
+  made_in (OfRamp f None) t h a y = absurd cc
   made_in OfFreeRun t h a y = given_so (sine_in t h (counter_next t y.counter) a y)
 
   pub made_told : (g : Gave) (hs : List Happening) → Tells g hs → (t : Tone) (a : ℕ) (y z : Signal) → Made g t a y z

@@ -1,20 +1,19 @@
 -- A ramp loaded under settings that pass has no sum out of range until the next load (`never_out`): every act but that load keeps channel c as
 -- the load left it, ramp and copy, in the sense of `Under`. Assumes nothing.
-use mathlib.Core.Path.{◌≡◌, refl, sym, ap, ◌∙◌, subst}
-use mathlib.Core.Bool.{Bool, true, false, ◌||◌, cond, true≢false}
-use mathlib.Core.Logic.{inl, inr}
+use Rattle.std.specs.Prelude.{Option, Some, None}
+use mathlib.Core.Path.{◌≡◌, refl, sym, ap, ◌∙◌}
+use mathlib.Core.Bool.{Bool, true, false, ◌||◌}
 use mathlib.Core.List.{List, [], ◌∷◌, ◌++◌}
 use Prim.Native.Nat.{ℕ, ◌+◌, ◌*◌, ◌≤◌, ◌<◌}
 use native.Mathlib.Omega.{arith}
 use lib.Dec.{eqb}
 use lib.ListN.{length}
+use Rattle.std.proofs.lemmas.Bool.{or_parts}
 use Rattle.sum.specs.declared.Edition.{Edition}
 use Rattle.map.specs.Map.{base}
-use Rattle.slots.specs.declared.Holder.{Holder}
-use Rattle.slots.specs.declared.Holder.TheVariants.{Level, Nobody}
 use Rattle.channel.specs.declared.Channel.{Channel}
 use Rattle.channel.specs.Signal.{overflows}
-use Rattle.channel.specs.Channel.{Side, side, counting, loads_at, load, start, tick_of, countdown, triggered}
+use Rattle.channel.specs.Channel.{Side, side, loads_at, load, start, tick_of, countdown, triggered}
 use Rattle.card.specs.declared.Card.{Card}
 use Rattle.card.specs.declared.Cause.{Cause}
 use Rattle.card.specs.Card.{State, channel_of}
@@ -31,7 +30,7 @@ use Rattle.history.specs.Sound.{Sound}
 use Rattle.history.specs.Triggers.{event_by}
 use Rattle.history.specs.Countdowns.{just_before}
 use Rattle.history.specs.Demand3.{side_at}
-use Rattle.history.specs.Story.{Happening, Load, Sample, FreeSample, Output, Clear, Fresh, by_tick, by_trigger, by_word, by_words, in_tick, at_trigger, happens, story}
+use Rattle.history.specs.Story.{Happening, Load, Sample, by_tick, by_trigger, by_word, by_words, in_tick, at_trigger, happens, story}
 use Rattle.history.specs.Active.{load_among}
 use Rattle.history.specs.InRange.{out_before_load, PassedLoad, NoSumCounted, NeverOut}
 use Rattle.history.proofs.Addresses.{overflow_register}
@@ -47,13 +46,9 @@ use Rattle.history.proofs.Under.{counts_load, Under, resting, untimed_under, tri
 
 -- ---- the card's channel c
 
-or_none : (a b : Bool) → a || b ≡ false → (a ≡ false) × (b ≡ false)
-or_none false b e = (refl, e)
-or_none true b e = absurd (true≢false e)
-
 or_left : (a b : Bool) → a || b ≡ true → b ≡ false → a ≡ true
 or_left true b e f = refl
-or_left false b e f = absurd (true≢false (sym e ∙ f))
+or_left false b e f = absurd cc
 
 abbrev In : List Happening → Type 0
 In hs = out_before_load hs ≡ false
@@ -61,26 +56,20 @@ In hs = out_before_load hs ≡ false
 in_append : (hs js : List Happening) → In hs → In js → In (hs ++ js)
 in_append [] js p q = q
 in_append (Load ld ∷ hs) js p q = refl
-in_append (Sample w f x u ∷ hs) js p q = let r = or_none (overflows u) (out_before_load hs) p in rw r.0 (in_append hs js r.1 q)
-in_append (FreeSample w ∷ hs) js p q = in_append hs js p q
-in_append (Output v ∷ hs) js p q = in_append hs js p q
-in_append (Clear ∷ hs) js p q = in_append hs js p q
-in_append (Fresh ∷ hs) js p q = in_append hs js p q
+in_append (Sample w f x u ∷ hs) js p q = let r = or_parts (overflows u) (out_before_load hs) p in rw r.0 (in_append hs js r.1 q)
+in_append (y ∷ hs) js p q = in_append hs js p q
 
 -- what comes after a load is not looked at
 in_load : (hs js : List Happening) → load_among hs ≡ true → In hs → In (hs ++ js)
-in_load [] js l p = absurd (true≢false (sym l))
+in_load [] js l p = absurd cc
 in_load (Load ld ∷ hs) js l p = refl
-in_load (Sample w f x u ∷ hs) js l p = let r = or_none (overflows u) (out_before_load hs) p in rw r.0 (in_load hs js l r.1)
-in_load (FreeSample w ∷ hs) js l p = in_load hs js l p
-in_load (Output v ∷ hs) js l p = in_load hs js l p
-in_load (Clear ∷ hs) js l p = in_load hs js l p
-in_load (Fresh ∷ hs) js l p = in_load hs js l p
+in_load (Sample w f x u ∷ hs) js l p = let r = or_parts (overflows u) (out_before_load hs) p in rw r.0 (in_load hs js l r.1)
+in_load (y ∷ hs) js l p = in_load hs js l p
 
 -- triggers and words give no samples
-trigger_in : (r : Holder) (s : List ℕ) (c : ℕ) → In (by_trigger r s c)
-trigger_in (Level l) s c = choose In (loads_at (countdown s c l)) _ _ refl refl
-trigger_in Nobody s c = refl
+trigger_in : (r : Option ℕ) (s : List ℕ) (c : ℕ) → In (by_trigger r s c)
+trigger_in (Some l) s c = choose In (loads_at (countdown s c l)) _ _ refl refl
+trigger_in None s c = refl
 
 words_in_lem : (c a : ℕ) (vs : List ℕ) → In (by_words c a vs)
 words_in_lem c a [] = refl
@@ -94,11 +83,11 @@ module _ (s : List ℕ) (c v : ℕ) (f : ℕ → List ℕ → Channel → Side)
     (beside : (b c : ℕ) (l : List ℕ) (ch : Channel) → (b ≡ c → ⊥) → C.elsewhere c l (f b l ch).tables ≡ (f b l ch).tables) (k : Card) (l : List ℕ)
     (y : Turn f beside k l c) (room : 128 * c + 128 ≤ length l) where
   comes_under : (ed : Edition) → Under s c v (side (channel_of k c) l) → Under s c v (side (channel_of k c) y.mid)
-  comes_under ed u = subst (Under s c v) (y.comes ed) (untimed_under s c v ed (side (channel_of k c) l) y.before y.none room u)
+  comes_under ed u = rw (← (y.comes ed)) (untimed_under s c v ed (side (channel_of k c) l) y.before y.none room u)
 
   goes_under : (ed : Edition) → length (f c y.mid (channel_of k c)).tables ≡ length y.mid → (z : Side) → C.run ed c (f c y.mid (channel_of k c)) y.after ≡ z
       → Under s c v (f c y.mid (channel_of k c)) → Under s c v z
-  goes_under ed e z g u = subst (Under s c v) g (untimed_under s c v ed _ y.after y.none_after (omega (arith, mid_length f beside k l c y)) u)
+  goes_under ed e z g u = rw (← g) (untimed_under s c v ed _ y.after y.none_after (omega (arith, mid_length f beside k l c y)) u)
 
 module _ (s : List ℕ) (c v : ℕ) (inside : c < 4) where
   abbrev UnderIn : State → Type 0
@@ -159,8 +148,8 @@ module _ (s : List ℕ) (c v : ℕ) (inside : c < 4) where
 
       advanced_counted : Counted c w (in_tick w y c) ch (channel_of (advanced w y).card c)
       advanced_counted =
-          subst (λ hs. Counted c w hs ch (channel_of (advanced w y).card c)) same_told
-          (subst (λ k. Counted c w (by_tick ed w y.settings t.mid c ch) ch k) (tick_same w y c t)
+          rw (← same_told)
+          (rw (← (tick_same w y c t))
           (tick_counted s c v ed (fits ed) y.settings w (side ch t.mid) mid))
 
     -- ---- any act
@@ -169,38 +158,35 @@ module _ (s : List ℕ) (c v : ℕ) (inside : c < 4) where
     act_in y h u (Tick w event) = in_append (in_tick w y c) _ (advanced_in w y h u) (trigger_in (trigger_by y (Tick w event)) y.settings c)
     act_in y h u (Write start count ws) =
         in_append (at_trigger y (Write start count ws) c) _ (trigger_in (trigger_by y (Write start count ws)) y.settings c) (words_in_lem c start (words_done y start count ws))
-    act_in y h u (Ask what) = refl
-    act_in y h u (HandIn to ws) = refl
-    act_in y h u (Renew how) = refl
+    act_in y h u _ = refl
 
     act_under : (y : State) → Sound y → UnderIn y → (z : Act) → load_among (happens c y z) ≡ false → UnderIn (act y z)
     act_under y h u (Tick w event) l = go (trigger_by y (Tick w event)) refl
       where
         two : (load_among (in_tick w y c) ≡ false) × (load_among (at_trigger y (Tick w event) c) ≡ false)
-        two = or_none _ _ (sym (load_append (in_tick w y c) (at_trigger y (Tick w event) c)) ∙ l)
+        two = or_parts _ _ (sym (load_append (in_tick w y c) (at_trigger y (Tick w event) c)) ∙ l)
 
-        go : (r : Holder) → trigger_by y (Tick w event) ≡ r → UnderIn (act y (Tick w event))
-        go (Level level) e =
+        go : (r : Option ℕ) → trigger_by y (Tick w event) ≡ r → UnderIn (act y (Tick w event))
+        go (Some level) e =
             rw (trigger_is y (Tick w event) level e)
             (struck_under (advanced w y) level event (omega (arith, advanced_room w y, h.tables.many))
             (ap (λ (z : List ℕ). loads_at (countdown z c level)) (advanced_settings w y) ∙ sym (trigger_loads y.settings c level) ∙ (rw e at two.1))
             (advanced_under w y h u two.0))
-        go Nobody e = rw (quiet_tick w y event e) (advanced_under w y h u two.0)
+        go None e = rw (quiet_tick w y event e) (advanced_under w y h u two.0)
     act_under y h u (Write start count ws) l = go (trigger_by y (Write start count ws)) refl
       where
         two : (load_among (at_trigger y (Write start count ws) c) ≡ false) × (load_among (by_words c start (words_done y start count ws)) ≡ false)
-        two = or_none _ _ (sym (load_append (at_trigger y (Write start count ws) c) (by_words c start (words_done y start count ws))) ∙ l)
+        two = or_parts _ _ (sym (load_append (at_trigger y (Write start count ws) c) (by_words c start (words_done y start count ws))) ∙ l)
 
-        go : (r : Holder) → trigger_by y (Write start count ws) ≡ r → UnderIn (act y (Write start count ws))
-        go (Level level) e =
+        go : (r : Option ℕ) → trigger_by y (Write start count ws) ≡ r → UnderIn (act y (Write start count ws))
+        go (Some level) e =
             rw (trigger_is y (Write start count ws) level e)
             (struck_under y level 0xFE (omega (arith, h.tables.many)) (sym (trigger_loads y.settings c level) ∙ (rw e at two.0)) u)
-        go Nobody e =
+        go None e =
             let p = write_part c inside y start count ws h.card.four e in
-            subst (Under s c v) (p.runs y.card.edition) (untimed_under s c v y.card.edition (side_at y c) p.acts p.none (omega (arith, h.tables.many)) u)
-    act_under y h u (Ask what) l = u
-    act_under y h u (HandIn to ws) l = u
-    act_under y h u (Renew how) l = resting (ap (λ (ch : Channel). ch.phase) (four_fresh (edition_by how y.card.edition) c inside))
+            rw (← (p.runs y.card.edition)) (untimed_under s c v y.card.edition (side_at y c) p.acts p.none (omega (arith, h.tables.many)) u)
+    act_under y h u (Renew how) l = resting (cc (four_fresh (edition_by how y.card.edition) c inside))
+    act_under y h u _ l = u
 
     -- until the next load
     acts_in : (y : State) → Sound y → UnderIn y → (ys : List Act) → Words16 ys → In (story c y ys)
@@ -216,7 +202,7 @@ module _ (s : List ℕ) (c v : ℕ) (inside : c < 4) where
     acts_under : (y : State) → Sound y → UnderIn y → (ys : List Act) → Words16 ys → load_among (story c y ys) ≡ false → Sound (acts y ys) × UnderIn (acts y ys)
     acts_under y h u [] w l = (h, u)
     acts_under y h u (z ∷ zs) w l =
-        let two = or_none _ _ (sym (load_append (happens c y z) (story c (act y z) zs)) ∙ l) in
+        let two = or_parts _ _ (sym (load_append (happens c y z) (story c (act y z) zs)) ∙ l) in
         let r = one_sound y z zs w h in
         acts_under (act y z) r.0 (act_under y h u z two.0) zs r.1 two.1
 
@@ -248,11 +234,11 @@ module _ (c : ℕ) (inside : c < 4) where
     small : level < 32
     under : Under st.settings c level (side_at (act st x) c)
 
-  trigger_small : (st : State) (x : Act) (level : ℕ) → trigger_by st x ≡ Level level → Sound (act st x) → level < 32
+  trigger_small : (st : State) (x : Act) (level : ℕ) → trigger_by st x ≡ Some level → Sound (act st x) → level < 32
   trigger_small st x level e h =
-      subst (λ n. n < 32) (ap (λ (k : Cause). k.level) (ap (λ (z : State). z.card.pending) (trigger_is st x level e) ∙ trigger_pending (just_before st x) level (event_by x))) h.card.pending.level
+      rw (← (ap (λ (k : Cause). k.level) (ap (λ (z : State). z.card.pending) (trigger_is st x level e) ∙ trigger_pending (just_before st x) level (event_by x)))) h.card.pending.level
 
-  at_trigger_lem : (st : State) (x : Act) (level : ℕ) → trigger_by st x ≡ Level level → Sound st → Sound (act st x) → loads_at (countdown st.settings c level) ≡ true → LoadOf st x
+  at_trigger_lem : (st : State) (x : Act) (level : ℕ) → trigger_by st x ≡ Some level → Sound st → Sound (act st x) → loads_at (countdown st.settings c level) ≡ true → LoadOf st x
   at_trigger_lem st x level e h g l =
       record {
         level = level;
@@ -268,8 +254,8 @@ module _ (c : ℕ) (inside : c < 4) where
       room : 512 ≤ length st.tables
       room = omega (arith, h.tables.many)
 
-      go : (r : Holder) → trigger_by st (Tick w event) ≡ r → load_among (in_tick w st c) || load_among (by_trigger (trigger_by st (Tick w event)) st.settings c) ≡ true → LoadOf st (Tick w event)
-      go (Level level) e q = by (loads_at (countdown st.settings c level)) refl
+      go : (r : Option ℕ) → trigger_by st (Tick w event) ≡ r → load_among (in_tick w st c) || load_among (by_trigger (trigger_by st (Tick w event)) st.settings c) ≡ true → LoadOf st (Tick w event)
+      go (Some level) e q = by (loads_at (countdown st.settings c level)) refl
         where
           by : (b : Bool) → loads_at (countdown st.settings c level) ≡ b → LoadOf st (Tick w event)
           by true d = at_trigger_lem st (Tick w event) level e h g d
@@ -280,10 +266,10 @@ module _ (c : ℕ) (inside : c < 4) where
                 under =
                     rw (trigger_is st (Tick w event) level e)
                     (struck_under st.settings c (channel_of st.card c).level inside (advanced w st) level event (omega (arith, advanced_room w st, room))
-                    (ap (λ (z : List ℕ). loads_at (countdown z c level)) (advanced_settings w st) ∙ d)
+                    (cc (advanced_settings w st))
                     (counted_load w st room (or_left _ _ q (rw e (trigger_loads st.settings c level ∙ d)))));
               }
-      go Nobody e q =
+      go None e q =
           record {
             level = (channel_of st.card c).level;
             small = (h.card.channels c).level;
@@ -297,12 +283,12 @@ module _ (c : ℕ) (inside : c < 4) where
       at_once : load_among (by_trigger (trigger_by st (Write start count ws)) st.settings c) ≡ true
       at_once = or_left _ _ (sym (load_append (at_trigger st (Write start count ws) c) words) ∙ l) (words_load c start (words_done st start count ws))
 
-      go : (r : Holder) → trigger_by st (Write start count ws) ≡ r → load_among (by_trigger (trigger_by st (Write start count ws)) st.settings c) ≡ true → LoadOf st (Write start count ws)
-      go (Level level) e q = at_trigger_lem st (Write start count ws) level e h g (sym (trigger_loads st.settings c level) ∙ (rw e at q))
-      go Nobody e q = absurd (true≢false (sym (rw e at q)))
-  load_of st h (Ask what) g l = absurd (true≢false (sym l))
-  load_of st h (HandIn to ws) g l = absurd (true≢false (sym l))
-  load_of st h (Renew how) g l = absurd (true≢false (sym l))
+      go : (r : Option ℕ) → trigger_by st (Write start count ws) ≡ r → load_among (by_trigger (trigger_by st (Write start count ws)) st.settings c) ≡ true → LoadOf st (Write start count ws)
+      go (Some level) e q = at_trigger_lem st (Write start count ws) level e h g (sym (trigger_loads st.settings c level) ∙ (rw e at q))
+      go None e q = absurd cc
+  load_of st h (Ask what) g l = absurd cc
+  load_of st h (HandIn to ws) g l = absurd cc
+  load_of st h (Renew how) g l = absurd cc
 
 -- ---- from the load on
 
@@ -310,12 +296,7 @@ module _ (c : ℕ) (inside : c < 4) where
 triggered_keeps : (z l : List ℕ) (c : ℕ) (ch : Channel) (level : ℕ)
     → ((triggered z l c ch level).channel.signal ≡ ch.signal) × ((triggered z l c ch level).channel.shown.amplitude ≡ ch.shown.amplitude)
 unfolding triggered load
-triggered_keeps z l c ch level = go (loads_at (countdown z c level))
-  where
-    go : (b : Bool) → ((cond b (load z l c ch level) (side (counting ch level (countdown z c level)) l)).channel.signal ≡ ch.signal)
-        × ((cond b (load z l c ch level) (side (counting ch level (countdown z c level)) l)).channel.shown.amplitude ≡ ch.shown.amplitude)
-    go true = (refl, refl)
-    go false = (refl, refl)
+triggered_keeps z l c ch level = grind arith
 
 module _ (c : ℕ) (st : State) (x : Act) (p : PassedLoad c st x) where
   sound : Sound (act st x)
@@ -345,18 +326,14 @@ module _ (c : ℕ) (st : State) (x : Act) (p : PassedLoad c st x) where
     event_keeps : Counted c w (in_tick w y c) (channel_of y.card c) (channel_of (act y (Tick w event)).card c)
     event_keeps = go (trigger_by y (Tick w event)) refl
       where
-        go : (r : Holder) → trigger_by y (Tick w event) ≡ r → Counted c w (in_tick w y c) (channel_of y.card c) (channel_of (act y (Tick w event)).card c)
-        go (Level level) e =
+        go : (r : Option ℕ) → trigger_by y (Tick w event) ≡ r → Counted c w (in_tick w y c) (channel_of y.card c) (channel_of (act y (Tick w event)).card c)
+        go (Some level) e =
             let k = triggered_keeps (advanced w y).settings (trigger_turn (advanced w y) level c p.inside).mid c (channel_of (advanced w y).card c) level in
             rw (struck_channel y (Tick w event) level e c p.inside, k.0, k.1) moved
-        go Nobody e = rw (quiet_tick w y event e) moved
+        go None e = rw (quiet_tick w y event e) moved
 
     ticked : NoSumCounted c w y (act y (Tick w event))
-    ticked = go event_keeps
-      where
-        go : Counted c w (in_tick w y c) (channel_of y.card c) (channel_of (act y (Tick w event)).card c) → NoSumCounted c w y (act y (Tick w event))
-        go (inl e) = inl (rw (overflow_register c p.inside) e)
-        go (inr (g, d)) = inr (record { given = g; sine = d.sine; product = d.product; grows = rw (overflow_register c p.inside) d.grows })
+    ticked = grind (arith, event_keeps, overflow_register)
 
 -- A RAMP LOADED UNDER SETTINGS THAT PASS HAS NO SUM OUT OF RANGE, UNTIL THE NEXT LOAD
 pub never_out : NeverOut

@@ -1,5 +1,6 @@
 -- When a channel loads: a tick takes one microsecond from its countdown, a trigger sets it, and it loads where that comes to 10. So what
 -- the card shows changes exactly where a load is told (`advanced_active`, `trigger_active`). Assumes nothing.
+use Rattle.std.specs.Prelude.{Some}
 use mathlib.Core.Path.{◌≡◌, refl, sym, ap, ◌∙◌}
 use mathlib.Core.Bool.{Bool, true, false, ◌||◌, cond, or-true, or-false}
 use mathlib.Core.List.{List, [], ◌∷◌, ◌++◌}
@@ -10,7 +11,6 @@ use borrow.Author.Tests.{eqb-true}
 use Rattle.sum.specs.declared.Edition.{Edition}
 use Rattle.map.specs.Map.{base}
 use Rattle.map.specs.Addresses.{enable_at}
-use Rattle.slots.specs.declared.Holder.TheVariants.{Level}
 use Rattle.word.specs.Word.{grown, lasting}
 use Rattle.channel.specs.declared.Moved.{Moved}
 use Rattle.channel.specs.declared.Ramp.{Ramp}
@@ -20,15 +20,14 @@ use Rattle.channel.specs.declared.Phase.TheVariants.{Rest, Counting, Running, Fr
 use Rattle.channel.specs.declared.Channel.{Channel}
 use Rattle.channel.specs.Ramp.{enter, given, advance}
 use Rattle.channel.specs.Channel.{Move, move, quiet, word, with, first_of, lead, loads_at, to_start, just_loaded, load, loaded_for, start, phase_of, count_to, move_at, tick_of, countdown}
-use Rattle.card.specs.declared.Cause.{Cause}
 use Rattle.card.specs.declared.Card.{Card}
 use Rattle.card.specs.Card.{State, channel_of, with_channels, count_of, on_some}
 use Rattle.card.specs.Active.{cause}
-use Rattle.card.specs.Trigger.{counted, struck, trigger_of}
+use Rattle.card.specs.Trigger.{struck, trigger_of}
 use Rattle.card.specs.Tick.{advanced}
 use Rattle.course.proofs.Copies.{choose}
-use Rattle.history.specs.History.{Act, Tick, Write, Ask, HandIn, Renew, words_done}
-use Rattle.history.specs.Story.{Happening, Load, Sample, FreeSample, Output, Clear, Fresh, by_ramp, by_start, in_phase, by_trigger, by_word, by_words, in_tick, at_trigger}
+use Rattle.history.specs.History.{Act, Tick, Write, words_done}
+use Rattle.history.specs.Story.{Happening, Load, Output, Clear, by_ramp, by_start, in_phase, by_trigger, by_word, by_words, in_tick, at_trigger}
 use Rattle.history.specs.Active.{load_among, loads_by, loads_by_counting, loads_before, loads_at_trigger}
 use Rattle.history.proofs.Cards.{count_keeps}
 use Rattle.history.proofs.Tracks.{tick_turn, tick_same, trigger_turn, trigger_same}
@@ -60,18 +59,12 @@ or_swap false false c d = refl
 
 some_or : (f g : ℕ → Bool) → on_some (λ c. f c || g c) ≡ on_some f || on_some g
 some_or f g =
-    ap (λ (x : Bool). x || (f 2 || g 2) || (f 3 || g 3)) (or_swap (f 0) (g 0) (f 1) (g 1))
-    ∙ ap (λ (x : Bool). x || (f 3 || g 3)) (or_swap (f 0 || f 1) (g 0 || g 1) (f 2) (g 2))
-    ∙ or_swap (f 0 || f 1 || f 2) (g 0 || g 1 || g 2) (f 3) (g 3)
+    cc (or_swap (f 0) (g 0) (f 1) (g 1), or_swap (f 0 || f 1) (g 0 || g 1) (f 2) (g 2), or_swap (f 0 || f 1 || f 2) (g 0 || g 1 || g 2) (f 3) (g 3))
 
 pub load_append : (hs js : List Happening) → load_among (hs ++ js) ≡ load_among hs || load_among js
 load_append [] js = refl
 load_append (Load ld ∷ hs) js = refl
-load_append (Sample w f p u ∷ hs) js = load_append hs js
-load_append (FreeSample w ∷ hs) js = load_append hs js
-load_append (Output v ∷ hs) js = load_append hs js
-load_append (Clear ∷ hs) js = load_append hs js
-load_append (Fresh ∷ hs) js = load_append hs js
+load_append (y ∷ hs) js = load_append hs js
 
 -- words done are no loads
 pub words_load : (c a : ℕ) (vs : List ℕ) → load_among (by_words c a vs) ≡ false
@@ -93,9 +86,7 @@ loads_told st (Write start count ws) =
     (λ c h. load_append (at_trigger st (Write start count ws) c) (by_words c start (words_done st start count ws))
     ∙ ap (λ (b : Bool). load_among (at_trigger st (Write start count ws) c) || b) (words_load c start (words_done st start count ws))
     ∙ or-false (load_among (at_trigger st (Write start count ws) c)))
-loads_told st (Ask what) = refl
-loads_told st (HandIn to ws) = refl
-loads_told st (Renew how) = refl
+loads_told st _ = refl
 
 -- ---- a channel's tick
 
@@ -163,43 +154,39 @@ module _ (waves : List ℕ) (st : State) where
   pub advanced_counts : (c : ℕ) → c < 4 → to_start (channel_of (advanced waves st).card c).phase ≡ to_start (channel_of st.card c).phase - 1
   unfolding tick_of
   advanced_counts c h =
-      ap (λ (ch : Channel). to_start ch.phase) (sym (tick_same waves st c (tick_turn waves st c h)))
-      ∙ tick_counts st.card.edition st.settings (tick_turn waves st c h).mid c (channel_of st.card c) (channel_of st.card c).phase refl
+      cc (
+        tick_same waves st c (tick_turn waves st c h),
+        tick_counts st.card.edition st.settings (tick_turn waves st c h).mid c (channel_of st.card c) (channel_of st.card c).phase refl,
+      )
 
   counting_told : (c : ℕ) → c < 4 → just_loaded (channel_of (advanced waves st).card c).phase ≡ load_among (in_tick waves st c)
-  counting_told c h = ap loads_at (advanced_counts c h) ∙ sym (tick_loads st.card.edition waves st.settings st.tables c (channel_of st.card c) (channel_of st.card c).phase)
+  counting_told c h = cc (advanced_counts c h, tick_loads st.card.edition waves st.settings st.tables c (channel_of st.card c) (channel_of st.card c).phase)
 
   -- A TICK SHOWS THE PENDING TRIGGER WHERE SOME CHANNEL LOADS BY COUNTING
   pub advanced_active : (advanced waves st).card.active ≡ cond (loads_by_counting waves st) st.card.pending st.card.active
   unfolding advanced
-  advanced_active = ap (λ (b : Bool). cond b st.card.pending st.card.active) (some_same _ _ counting_told)
+  advanced_active = cc (some_same _ _ counting_told)
 
   pub advanced_pending : (advanced waves st).card.pending ≡ st.card.pending
   unfolding advanced
   advanced_pending = refl
 
-pub trigger_loads : (s : List ℕ) (c level : ℕ) → load_among (by_trigger (Level level) s c) ≡ loads_at (countdown s c level)
-trigger_loads s c level = go (loads_at (countdown s c level))
-  where
-    go : (b : Bool) → load_among (cond b (Load (loaded_for s c level) ∷ []) []) ≡ b
-    go true = refl
-    go false = refl
+pub trigger_loads : (s : List ℕ) (c level : ℕ) → load_among (by_trigger (Some level) s c) ≡ loads_at (countdown s c level)
+trigger_loads s c level = grind arith
 
 module _ (st : State) (level event : ℕ) where
-  trigger_told : (c : ℕ) → c < 4 → just_loaded (channel_of (trigger_of st level event).card c).phase ≡ load_among (by_trigger (Level level) st.settings c)
+  trigger_told : (c : ℕ) → c < 4 → just_loaded (channel_of (trigger_of st level event).card c).phase ≡ load_among (by_trigger (Some level) st.settings c)
   trigger_told c h =
       ap (λ (ch : Channel). just_loaded ch.phase) (sym (trigger_same st level event c (trigger_turn st level c h)))
       ∙ ap loads_at (triggered_counts st.settings _ c (channel_of st.card c) level)
       ∙ sym (trigger_loads st.settings c level)
 
   -- A TRIGGER SHOWS ITSELF WHERE SOME CHANNEL LOADS AT ONCE, AND IS KEPT
-  pub trigger_active : (trigger_of st level event).card.active ≡ cond (on_some (λ c. load_among (by_trigger (Level level) st.settings c))) (cause level event) st.card.active
+  pub trigger_active : (trigger_of st level event).card.active ≡ cond (on_some (λ c. load_among (by_trigger (Some level) st.settings c))) (cause level event) st.card.active
   unfolding trigger_of
   trigger_active =
       let k : Card = with_channels st.card (struck st level).channels in
-      ap (λ (b : Bool). cond b (cause level event) (counted k level).active) (some_same _ _ trigger_told)
-      ∙ ap (λ (t : Cause). cond (on_some (λ c. load_among (by_trigger (Level level) st.settings c))) (cause level event) t)
-      (count_keeps k level (grown (count_of k level)) (λ (x : Card). x.active) refl)
+      cc (some_same _ _ trigger_told, count_keeps k level (grown (count_of k level)) (λ (x : Card). x.active) refl)
 
   pub trigger_pending : (trigger_of st level event).card.pending ≡ cause level event
   unfolding trigger_of

@@ -1,15 +1,14 @@
 -- A transfer's answer is in one row of the table (`write_answered`, `read_answered`), and no answer is in two (`one_row`). Assumes nothing.
-use mathlib.Core.Path.{◌≡◌, refl, sym, ap, ◌∙◌}
-use mathlib.Core.Bool.{Bool, true, false, not, true≢false}
+use Rattle.std.specs.Prelude.{Option, Some, None, Result}
+use mathlib.Core.Path.{◌≡◌, refl}
+use mathlib.Core.Bool.{Bool, true, false, not}
 use mathlib.Core.List.{List, [], ◌∷◌}
 use Prim.Native.Nat.{ℕ, ◌+◌, ◌/◌, ◌%◌, ◌≤◌, ◌<◌}
 use native.Mathlib.Omega.{arith}
 use lib.Dec.{ltb}
-use lib.ListN.{length, get_or, take}
-use borrow.Author.Tests.{ltb-true, ltb-false}
+use lib.ListN.{get_or, take}
+use borrow.Author.Tests.{ltb-false}
 use Rattle.map.specs.declared.Access.{Access}
-use Rattle.map.specs.declared.Found.{Found}
-use Rattle.map.specs.declared.Found.TheVariants.{At, Nothing}
 use Rattle.map.specs.declared.Region.{Region}
 use Rattle.map.specs.declared.Register.{Register}
 use Rattle.map.specs.declared.Register.TheVariants as R
@@ -20,14 +19,14 @@ use Rattle.map.proofs.Blocks.{channel_ordered, in_channel}
 use Rattle.map.proofs.Regions.{lies, same_region}
 use Rattle.card.specs.declared.Card.{Card}
 use Rattle.card.specs.Card.{State}
-use Rattle.transfer.specs.declared.Answer.{Answer}
 use Rattle.transfer.specs.Word.{held_at, running_at}
-use Rattle.transfer.specs.Transfer.{number_of, processed_of, bad_count, writable, write_of, read_of}
+use Rattle.transfer.specs.Transfer.{number_of, processed_of, writable, write_of, read_of}
 use Rattle.history.specs.History.{done_from}
 use Rattle.history.specs.Numbers.{case, first, once, to_write, write_refusal, Given, Once, Stopped, All, Exact, WriteAnswered, ReadAnswered}
 use Rattle.history.proofs.Addresses.{Sits, sits}
 use Rattle.history.proofs.Writing.{written}
 use Rattle.history.proofs.Reading.{was_read}
+use Rattle.transfer.specs.declared.Refusal.{Refusal}
 
 -- the words before a refused one are not refused
 clash : {P : Type 0} (f : ℕ → ℕ) (p n : ℕ) → f p ≡ n → 1 ≤ n → f p ≡ 0 → P
@@ -38,34 +37,24 @@ one_row o f count n p m q (Once a b c) (Once d e g) = (omega arith, omega arith)
 one_row o f count n p m q (Once a b c) (Stopped d e g h i) = absurd (omega arith)
 one_row o f count n p m q (Once a b c) (All d e g h) = absurd (omega arith)
 one_row o f count n p m q (Stopped a b c d e) (Once g h i) = absurd (omega arith)
-one_row o f count n p m q (Stopped a b c d e) (Stopped g h i j k) = go (ltb p q) refl (ltb q p) refl
-  where
-    go : (x : Bool) → ltb p q ≡ x → (y : Bool) → ltb q p ≡ y → (n ≡ m) × (p ≡ q)
-    go true u y w = clash f p n d e (i p (ltb-true p q u))
-    go false u true w = clash f q m j k (c q (ltb-true q p w))
-    go false u false w =
-        let z : p ≡ q = omega (arith, ltb-false p q u, ltb-false q p w) in
-        (sym d ∙ ap f z ∙ j, z)
+one_row o f count n p m q (Stopped a b c d e) (Stopped g h i j k) = grind arith
 one_row o f count n p m q (Stopped a b c d e) (All g h i j) = clash f p n d e (h p b)
 one_row o f count n p m q (All a b c d) (Once g h i) = absurd (omega arith)
 one_row o f count n p m q (All a b c d) (Stopped g h i j k) = clash f q m j k (b q h)
 one_row o f count n p m q (All a b c d) (All g h i j) = (omega arith, omega arith)
 
-exactly : (o : ℕ) (f : ℕ → ℕ) (count : ℕ) (w : Answer) → Given o f count (number_of w) (processed_of w) → Exact o f count w
+exactly : (o : ℕ) (f : ℕ → ℕ) (count : ℕ) (w : Result ℕ Refusal) → Given o f count (number_of w) (processed_of w) → Exact o f count w
 exactly o f count w g = record { given = g; only = λ n p h. one_row o f count n p (number_of w) (processed_of w) h g }
 
 -- ---- 8 is of A04, a region of one word
 
-output_alone : (c : ℕ) → c < 4 → (q : Region) → region_of (base c + 0xA04) ≡ At q → q.first ≡ base c + 0xA04
+output_alone : (c : ℕ) → c < 4 → (q : Region) → region_of (base c + 0xA04) ≡ Some q → q.first ≡ base c + 0xA04
 unfolding channel_rows
 output_alone c h q e =
     let d : (base c + 0xA04) / 0x1000 ≡ c = omega arith in
     let m : (base c + 0xA04) % 0x1000 ≡ 0xA04 = omega arith in
     let f = found 0 channel_rows channel_ordered 13 0xA04 (omega arith) (omega arith) (omega arith) in
-    first_is (rw (in_channel (base c + 0xA04) (omega arith), d, m, f) at e)
-  where
-    first_is : {a : Access} → At (record { first = base c + 0xA04; last = base c + 0xA04; access = a }) ≡ At q → q.first ≡ base c + 0xA04
-    first_is g = cc
+    cc (rw (in_channel (base c + 0xA04) (omega arith), d, m, f) at e)
 
 -- the address of an output whose ramp runs
 record Output (a : ℕ) : Type 0 where
@@ -74,22 +63,11 @@ record Output (a : ℕ) : Type 0 where
   is : a ≡ base channel + 0xA04
 
 running_output : (k : Card) (r : Register) (a : ℕ) → Sits r a → running_at k r ≡ true → Output a
-running_output k (R.Setting s) a i e = absurd (true≢false (sym e))
-running_output k (R.Fixed s) a i e = absurd (true≢false (sym e))
 running_output k (R.Output c) a i e = record { channel = c; inside = i.0; is = i.1 }
-running_output k (R.Status c f) a i e = absurd (true≢false (sym e))
-running_output k (R.Overflow c) a i e = absurd (true≢false (sym e))
-running_output k (R.Slot l) a i e = absurd (true≢false (sym e))
-running_output k (R.Image n) a i e = absurd (true≢false (sym e))
-running_output k R.Erase a i e = absurd (true≢false (sym e))
-running_output k R.Manual a i e = absurd (true≢false (sym e))
-running_output k R.ActiveLevel a i e = absurd (true≢false (sym e))
-running_output k R.ActiveEvent a i e = absurd (true≢false (sym e))
-running_output k (R.Count l) a i e = absurd (true≢false (sym e))
-running_output k R.Unlisted a i e = absurd (true≢false (sym e))
+running_output k _ a i e = absurd cc
 
 -- a word refused with 8 is at an output, in the region
-eighth : (q : Region) (x : State) (a v : ℕ) → first (to_write (At q) x a v) ≡ 8 → (a ≤ q.last) × Output a
+eighth : (q : Region) (x : State) (a v : ℕ) → first (to_write (Some q) x a v) ≡ 8 → (a ≤ q.last) × Output a
 eighth q x a v =
     go (ltb q.last a) refl (is_fixed (register_of a)) (not (accepted_at a v)) (held_at x.settings (register_of a) v) (running_at x.card (register_of a)) refl
   where
@@ -103,28 +81,24 @@ eighth q x a v =
     go true e f w h k i g = absurd (omega arith)
 
 -- without a region 1 or 2 is given
-no_region_once : (may : Access → Bool) (count : ℕ) (ws : List ℕ) → 1 ≤ first (once may Nothing count ws)
-no_region_once may count ws = go (bad_count count (length ws))
-  where
-    go : (a : Bool) → 1 ≤ first (case 1 a ∷ case 2 true ∷ case 3 false ∷ [])
-    go true = omega arith
-    go false = omega arith
+no_region_once : (may : Access → Bool) (count : ℕ) (ws : List ℕ) → 1 ≤ first (once may None count ws)
+no_region_once may count ws = grind arith
 
 eight_alone : (st : State) (start count : ℕ) (ws : List ℕ) (p : ℕ)
     → Given (first (once writable (region_of start) count ws)) (write_refusal (region_of start) st start ws) count 8 p → p ≡ 0
 eight_alone st start count ws p (Once a b c) = c
 eight_alone st start count ws p (Stopped a b c d e) = go (region_of start) refl a d
   where
-    at_output : (q : Region) → region_of start ≡ At q → (start + p ≤ q.last) × Output (start + p) → p ≡ 0
+    at_output : (q : Region) → region_of start ≡ Some q → (start + p ≤ q.last) × Output (start + p) → p ≡ 0
     at_output q f y =
         let l = lies start q f in
         let o = y.1 in
         let z = output_alone o.channel o.inside q (rw o.is at (same_region start (start + p) q f (omega arith) y.0)) in
         omega (arith, o.is)
 
-    go : (r : Found) → region_of start ≡ r → first (once writable r count ws) ≡ 0 → write_refusal r st start ws p ≡ 8 → p ≡ 0
-    go Nothing f g h = let z = no_region_once writable count ws in absurd (omega arith)
-    go (At q) f g h = at_output q f (eighth q (done_from st start (take p ws)) (start + p) (get_or ws p 0) h)
+    go : (r : Option Region) → region_of start ≡ r → first (once writable r count ws) ≡ 0 → write_refusal r st start ws p ≡ 8 → p ≡ 0
+    go None f g h = let z = no_region_once writable count ws in absurd (omega arith)
+    go (Some q) f g h = at_output q f (eighth q (done_from st start (take p ws)) (start + p) (get_or ws p 0) h)
 eight_alone st start count ws p (All a b c d) = absurd (omega arith)
 
 eight_first : (st : State) (start count : ℕ) (ws : List ℕ) (n p : ℕ)

@@ -1,7 +1,8 @@
 -- A write that is no trigger is a few acts of each channel, and no tick (`write_part`); it leaves phase, copy and pending level
 -- (`part_keeps`). Assumes nothing.
-use mathlib.Core.Path.{◌≡◌, refl, sym, ap, ◌∙◌, subst}
-use mathlib.Core.Bool.{Bool, true, false, cond}
+use Rattle.std.specs.Prelude.{None}
+use mathlib.Core.Path.{◌≡◌, refl, sym, ◌∙◌}
+use mathlib.Core.Bool.{Bool, true, false}
 use mathlib.Core.List.{List, [], ◌∷◌, ◌++◌}
 use Prim.Native.Nat.{ℕ, ◌+◌, ◌<◌}
 use native.Mathlib.Omega.{arith}
@@ -10,9 +11,8 @@ use lib.ListN.{length, set}
 use borrow.Author.Tests.{eqb-true, eqb-false}
 use Rattle.sum.specs.declared.Edition.{Edition}
 use Rattle.sum.specs.declared.Edition.TheVariants.{First}
-use Rattle.slots.specs.declared.Holder.TheVariants.{Level, Nobody}
 use Rattle.slots.specs.Slots.{erased}
-use Rattle.channel.specs.Channel.{Side, side, runs_of, output_to, overflow_cleared}
+use Rattle.channel.specs.Channel.{runs_of, output_to, overflow_cleared}
 use Rattle.card.specs.declared.Card.{Card}
 use Rattle.card.specs.Card.{State, state, channel_of, with_channel, with_count}
 use Rattle.transfer.specs.Transfer.{write_of}
@@ -41,7 +41,7 @@ then c x y z p q =
     record {
       acts = p.acts ++ q.acts;
       none = ticks_append p.acts q.acts ∙ omega (arith, p.none, q.none);
-      runs = λ ed. run_append ed c (side_at x c) p.acts q.acts ∙ ap (λ (w : Side). C.run ed c w q.acts) (p.runs ed) ∙ q.runs ed;
+      runs = λ ed. cc (run_append ed c (side_at x c) p.acts q.acts, p.runs ed, q.runs ed);
       settled = q.settled;
     }
 
@@ -65,14 +65,14 @@ module _ (c : ℕ) (inside : c < 4) (st : State) (four : length st.card.channels
           record {
             acts = C.Output v ∷ [];
             none = refl;
-            runs = λ ed. ap (λ ch. side ch st.tables) (mine (eqb-true c d f));
+            runs = λ ed. cc (mine (eqb-true c d f));
             settled = many;
           }
       go false f =
           record {
             acts = [];
             none = refl;
-            runs = λ ed. ap (λ ch. side ch st.tables) (sym (channel_other st.card d (output_to (channel_of st.card d) v) c (eqb-false c d f)));
+            runs = λ ed. cc (channel_other st.card d (output_to (channel_of st.card d) v) c (eqb-false c d f));
             settled = many;
           }
 
@@ -89,12 +89,12 @@ module _ (c : ℕ) (inside : c < 4) (st : State) (four : length st.card.channels
       mine f = rw f (sym (channel_same st.card d (overflow_cleared (channel_of st.card d)) (rw f at inside) four))
 
       go : (b : Bool) → eqb c d ≡ b → Part c st (state new st.settings st.tables)
-      go true f = record { acts = C.Clear ∷ []; none = refl; runs = λ ed. ap (λ ch. side ch st.tables) (mine (eqb-true c d f)); settled = many }
+      go true f = record { acts = C.Clear ∷ []; none = refl; runs = λ ed. cc (mine (eqb-true c d f)); settled = many }
       go false f =
           record {
             acts = [];
             none = refl;
-            runs = λ ed. ap (λ ch. side ch st.tables) (sym (channel_other st.card d (overflow_cleared (channel_of st.card d)) c (eqb-false c d f)));
+            runs = λ ed. cc (channel_other st.card d (overflow_cleared (channel_of st.card d)) c (eqb-false c d f));
             settled = many;
           }
 
@@ -107,27 +107,23 @@ module _ (c : ℕ) (inside : c < 4) (st : State) (four : length st.card.channels
   still s = record { acts = []; none = refl; runs = λ ed. refl; settled = four }
 
   word_part : (a v : ℕ) (y : State) → (a ≡ 0x4202 → ⊥) → Does st a v y → Part c st y
-  word_part a v y n (Keeps i e) = subst (Part c st) (sym e) (still (set st.settings a v))
-  word_part a v y n (Outputs d h i f e) = subst (Part c st) (sym e) (output_part d v f)
-  word_part a v y n (ClearsOverflow d h i e) = subst (Part c st) (sym e) (clear_part d)
-  word_part a v y n (ClearsCount l h i e) = subst (Part c st) (sym e) (count_part l)
-  word_part a v y n (Erases i f e) = subst (Part c st) (sym e) (still (erased st.settings))
-  word_part a v y n (Idles i f e) = subst (Part c st) (sym e) (nothing c st four)
+  word_part a v y n (Keeps i e) = rw e (still (set st.settings a v))
+  word_part a v y n (Outputs d h i f e) = rw e (output_part d v f)
+  word_part a v y n (ClearsOverflow d h i e) = rw e (clear_part d)
+  word_part a v y n (ClearsCount l h i e) = rw e (count_part l)
+  word_part a v y n (Erases i f e) = rw e (still (erased st.settings))
+  word_part a v y n (Idles i f e) = rw e (nothing c st four)
   word_part a v y n (Triggers i f e) = absurd (n i)
 
 -- no word done at 0x4202: the first is elsewhere, and so are the others
-pub none_first : (a v : ℕ) (vs : List ℕ) → manual_among a (v ∷ vs) ≡ Nobody → (a ≡ 0x4202 → ⊥) × (manual_among (a + 1) vs ≡ Nobody)
-none_first a v vs = go (eqb a 0x4202) refl
-  where
-    go : (b : Bool) → eqb a 0x4202 ≡ b → cond b (Level v) (manual_among (a + 1) vs) ≡ Nobody → (a ≡ 0x4202 → ⊥) × (manual_among (a + 1) vs ≡ Nobody)
-    go true e f = let z : ◌≡◌ {A = ℕ} 0 1 = cc in absurd (omega arith)
-    go false e f = (eqb-false a 0x4202 e, f)
+pub none_first : (a v : ℕ) (vs : List ℕ) → manual_among a (v ∷ vs) ≡ None → (a ≡ 0x4202 → ⊥) × (manual_among (a + 1) vs ≡ None)
+none_first a v vs = grind arith
 
 -- A WRITE THAT DOES NO WORD AT 0x4202 IS A FEW ACTS OF EACH CHANNEL, AND NO TICK
 pub write_part : (c : ℕ) → c < 4 → (st : State) (start count : ℕ) (ws : List ℕ) → length st.card.channels ≡ 4
-    → manual_among start (words_done st start count ws) ≡ Nobody → Part c st (write_of st start count ws).state
+    → manual_among start (words_done st start count ws) ≡ None → Part c st (write_of st start count ws).state
 write_part c h =
-    write_by (λ st a vs z. length st.card.channels ≡ 4 → manual_among a vs ≡ Nobody → Part c st z) (λ st a f q. nothing c st f)
+    write_by (λ st a vs z. length st.card.channels ≡ 4 → manual_among a vs ≡ None → Part c st z) (λ st a f q. nothing c st f)
     (λ st a v vs z p r f q. let y = none_first a v vs q in
     let w = word_part c h st f a v _ y.0 (passed_does st a v p) in
     then c st _ z w (r w.settled y.1))
@@ -142,7 +138,7 @@ pub part_keeps : (c : ℕ) (x y : State) → Part c x y → PartKept c x y
 part_keeps c x y p =
     let r = untimed_ramp First c (side_at x c) p.acts p.none in
     record {
-      phase = ap (λ (z : Side). z.channel.phase) (sym (p.runs First)) ∙ r.0;
-      loaded = ap (λ (z : Side). z.channel.loaded) (sym (p.runs First)) ∙ r.1;
-      level = ap (λ (z : Side). z.channel.level) (sym (p.runs First)) ∙ r.2;
+      phase = cc (p.runs First);
+      loaded = cc (p.runs First);
+      level = cc (p.runs First);
     }

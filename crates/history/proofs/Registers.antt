@@ -1,13 +1,13 @@
 -- The words of a channel's block: settings, the channel's own output, status and overflow count, and nothing of the card's; and a region
 -- that begins in the block ends in it; and which words are settings (`settings_are`). Each is a rule of the rows. Assumes nothing.
-use mathlib.Core.Path.{◌≡◌, refl, sym}
-use mathlib.Core.Bool.{Bool, true, false, not, ◌&&◌, cond, true≢false}
+use Rattle.std.specs.Prelude.{Some}
+use mathlib.Core.Path.{◌≡◌, refl}
+use mathlib.Core.Bool.{Bool, true, false, not, ◌&&◌}
 use Prim.Native.Nat.{ℕ, ◌+◌, ◌-◌, ◌/◌, ◌%◌, ◌<◌}
 use native.Mathlib.Omega.{arith}
 use lib.Dec.{ltb}
 use borrow.Author.Tests.{ltb-true, ltb-false}
 use Rattle.map.specs.declared.Region.{Region}
-use Rattle.map.specs.declared.Found.TheVariants.{At}
 use Rattle.map.specs.declared.Setting.{Setting}
 use Rattle.map.specs.declared.Register.{Register}
 use Rattle.map.specs.declared.Register.TheVariants as R
@@ -39,11 +39,7 @@ abbrev Owns : Row → Type 0
 Owns r = (c o : ℕ) → Own c (r.meaning c o)
 
 setting : (fixed : ℕ) (s : ℕ → Setting) (c o : ℕ) → Own c (settings fixed s c o)
-setting fixed s c o = go (ltb o fixed)
-  where
-    go : (b : Bool) → Own c (cond b (R.Fixed (s o)) (R.Setting (s o)))
-    go true = tt
-    go false = tt
+setting fixed s c o = grind arith
 
 channel_owns : All Owns channel_rows
 unfolding channel_rows
@@ -64,15 +60,15 @@ own c a h i =
 
 -- ---- the region
 
-ends : (h : Hit) (b o : ℕ) (q : Region) → scan channel_rows o ≡ h → found_in (raise b h) ≡ At q → q.last < b + 0x1000
+ends : (h : Hit) (b o : ℕ) (q : Region) → scan channel_rows o ≡ h → found_in (raise b h) ≡ Some q → q.last < b + 0x1000
 ends (hit r) b o q e f =
     let s = scan_short 0x1000 channel_rows channel_short o r e in
     let l : b + r.region.last ≡ q.last = cc in
     omega arith
-ends miss b o q e f = let z : ◌≡◌ {A = ℕ} 0 1 = cc in absurd (omega arith)
+ends miss b o q e f = absurd cc
 
 -- A REGION THAT HOLDS AN ADDRESS OF THE BLOCK ENDS IN THE BLOCK
-pub region_ends : (c a : ℕ) (q : Region) → c < 4 → InBlock c a → region_of a ≡ At q → q.last < base c + 0x1000
+pub region_ends : (c a : ℕ) (q : Region) → c < 4 → InBlock c a → region_of a ≡ Some q → q.last < base c + 0x1000
 region_ends c a q h i e =
     let d : a / 0x1000 ≡ c = omega arith in
     ends (scan channel_rows (a % 0x1000)) (base c) (a % 0x1000) q refl (rw (in_channel a (omega arith), d) at e)
@@ -88,28 +84,15 @@ pub data Kept (r : Register) : Type 0 where
 pub kept : (r : Register) → is_setting r ≡ true → Kept r
 kept (R.Setting s) e = plain s refl
 kept (R.Fixed s) e = fixed s refl
-kept (R.Output c) e = absurd (true≢false (sym e))
-kept (R.Status c f) e = absurd (true≢false (sym e))
-kept (R.Overflow c) e = absurd (true≢false (sym e))
 kept (R.Slot l) e = slot l refl
-kept (R.Image i) e = absurd (true≢false (sym e))
-kept R.Erase e = absurd (true≢false (sym e))
-kept R.Manual e = absurd (true≢false (sym e))
-kept R.ActiveLevel e = absurd (true≢false (sym e))
-kept R.ActiveEvent e = absurd (true≢false (sym e))
-kept (R.Count l) e = absurd (true≢false (sym e))
-kept R.Unlisted e = absurd (true≢false (sym e))
+kept _ e = absurd cc
 
 -- a row's words are settings, if it is RW and they are not excepted
 abbrev Plain : Row → Type 0
-Plain r = (c o : ℕ) → is_setting (r.meaning c o) ≡ read_write (At r.region) && not (excepted (r.meaning c o))
+Plain r = (c o : ℕ) → is_setting (r.meaning c o) ≡ read_write (Some r.region) && not (excepted (r.meaning c o))
 
 plain_row : (n : ℕ) (s : ℕ → Setting) (c o : ℕ) → is_setting (settings n s c o) ≡ true && not (excepted (settings n s c o))
-plain_row n s c o = go (ltb o n)
-  where
-    go : (b : Bool) → is_setting (cond b (R.Fixed (s o)) (R.Setting (s o))) ≡ true && not (excepted (cond b (R.Fixed (s o)) (R.Setting (s o))))
-    go true = refl
-    go false = refl
+plain_row n s c o = grind arith
 
 channel_plain : All Plain channel_rows
 unfolding channel_rows

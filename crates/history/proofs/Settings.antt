@@ -1,14 +1,14 @@
 -- The word at a setting's address after any history is the last word done there, or what an erase or a reset left after it
 -- (`settings_kept`): each word done leaves the word or puts the new one, by its address. Assumes nothing.
 use mathlib.Core.Path.{◌≡◌, refl, sym, ap, ◌∙◌}
-use mathlib.Core.Bool.{Bool, true, false, ◌&&◌, cond, true≢false}
+use mathlib.Core.Bool.{Bool, true, false, ◌&&◌, cond}
 use mathlib.Core.List.{List, [], ◌∷◌}
-use Prim.Native.Nat.{ℕ, ◌+◌, ◌/◌, ◌%◌, ◌≤◌, ◌<◌}
+use Prim.Native.Nat.{ℕ, ◌+◌, ◌%◌, ◌≤◌, ◌<◌}
 use native.Mathlib.Omega.{arith}
-use lib.Dec.{eqb, leb, ltb}
+use lib.Dec.{eqb}
 use lib.ListN.{length, set}
 use lib.Seq.{get_or-set_same, get_or-set_other}
-use borrow.Author.Tests.{ltb-true, ltb-false, lt-ltb, le-leb, lt-leb, leb-true, leb-false, eq-eqb, ne_eqb, eqb-true, eqb-false}
+use borrow.Author.Tests.{lt-ltb, le-leb, lt-leb, eq-eqb, ne_eqb}
 use Rattle.map.specs.declared.Register.{Register}
 use Rattle.map.specs.declared.Register.TheVariants as R
 use Rattle.map.specs.Map.{register_of, named}
@@ -19,9 +19,9 @@ use Rattle.channel.specs.Channel.{word}
 use Rattle.card.specs.Card.{State}
 use Rattle.card.specs.Reset.{settings_reset, fresh_of}
 use Rattle.card.proofs.Ticks.{trigger_settings, tick_settings}
-use Rattle.transfer.specs.Word.{effect_of, read_at}
+use Rattle.transfer.specs.Word.{effect_of}
 use Rattle.transfer.specs.Transfer.{write_of}
-use Rattle.history.specs.History.{Act, Tick, Write, Ask, HandIn, Renew, act, acts, read_back, words_done}
+use Rattle.history.specs.History.{Act, Tick, Write, Renew, act, acts, read_back, words_done}
 use Rattle.history.specs.Effects.{Does, Keeps, Outputs, ClearsOverflow, ClearsCount, Erases, Idles, Triggers}
 use Rattle.history.specs.Settings.{is_slot, is_scale, reset_word, word_left, left_at, last_word, SettingsKept}
 use Rattle.map.proofs.Room.{named_below}
@@ -46,7 +46,7 @@ module _ (b : ℕ) (setting : is_setting (register_of b) ≡ true) where
 
   -- an address whose register is no setting is another
   other : (a : ℕ) (r : Register) → register_of a ≡ r → is_setting r ≡ false → eqb a b ≡ false
-  other a r e f = ne_eqb a b (λ d. true≢false (sym setting ∙ ap (λ i. is_setting (register_of i)) (sym d) ∙ ap is_setting e ∙ f))
+  other a r e f = ne_eqb a b (λ d. cc setting)
 
   -- a word done at another address, which does not erase
   stays : (s s' : List ℕ) (a v : ℕ) → eqb a b ≡ false → eqb a 0x4201 ≡ false → s' ≡ s → word s' b ≡ word_left b a v (word s b)
@@ -55,24 +55,14 @@ module _ (b : ℕ) (setting : is_setting (register_of b) ≡ true) where
 
   keeps : (s : List ℕ) (a v : ℕ) → length s ≡ 16960 → is_setting (register_of a) ≡ true → word (set s a v) b ≡ word_left b a v (word s b)
   unfolding word_left
-  keeps s a v l i =
-      rw (ne_eqb a 0x4201 (λ d. true≢false (sym i ∙ ap (λ x. is_setting (register_of x)) d ∙ ap is_setting erase_register))) (go (eqb a b) refl)
-    where
-      go : (x : Bool) → eqb a b ≡ x → word (set s a v) b ≡ cond x v (word s b)
-      go true f = let d = eqb-true a b f in let h = inside in rw d (get_or-set_same s b v 0 (omega arith))
-      go false f = let d = eqb-false a b f in get_or-set_other s a b v 0 (λ g. d (sym g))
+  keeps s a v l i = grind (arith, erase_register, inside, get_or-set_same, get_or-set_other)
 
   erases : (s : List ℕ) → length s ≡ 16960 → word (erased s) b ≡ cond (is_slot b) 0xFE (word s b)
-  erases s l = go (leb 0x4000 b) refl (ltb b 0x4100) refl
-    where
-      go : (x : Bool) → leb 0x4000 b ≡ x → (y : Bool) → ltb b 0x4100 ≡ y → word (erased s) b ≡ cond (x && y) 0xFE (word s b)
-      go true e true f = let h = inside in filled_in 256 s 0x4000 0xFE b (leb-true 0x4000 b e) (omega (arith, ltb-true b 0x4100 f)) (omega arith)
-      go true e false f = let d = ltb-false b 0x4100 f in erased_else s b (λ i j. absurd (omega arith))
-      go false e y f = let d = leb-false 0x4000 b e in erased_else s b (λ i j. absurd (omega arith))
+  erases s l = grind (arith, filled_in, erased_else)
 
   erase_left : (s s' : List ℕ) (a v : ℕ) (x : Bool) → a ≡ 0x4201 → eqb v 1 ≡ x → word s' b ≡ cond (x && is_slot b) 0xFE (word s b) → word s' b ≡ word_left b a v (word s b)
   unfolding word_left
-  erase_left s s' a v x i e f = rw (other a R.Erase (ap register_of i ∙ erase_register) refl, eq-eqb a 0x4201 i, e) f
+  erase_left s s' a v x i e f = rw (other a R.Erase (cc erase_register) refl, eq-eqb a 0x4201 i, e) f
 
   abbrev words : State → List ℕ
   words x = x.settings
@@ -80,15 +70,15 @@ module _ (b : ℕ) (setting : is_setting (register_of b) ≡ true) where
   pub word_left_lem : (st : State) (a v : ℕ) (y : State) → length st.settings ≡ 16960 → Does st a v y → word y.settings b ≡ word_left b a v (word st.settings b)
   word_left_lem st a v y l (Keeps i e) = rw e (keeps st.settings a v l i)
   word_left_lem st a v y l (Outputs c h i f e) =
-      stays st.settings y.settings a v (other a (R.Output c) (ap register_of i ∙ output_register c h) refl) (ne_eqb a 0x4201 (λ d. absurd (omega arith))) (ap words e)
+      stays st.settings y.settings a v (other a (R.Output c) (cc (output_register c h)) refl) (ne_eqb a 0x4201 (λ d. absurd (omega arith))) (ap words e)
   word_left_lem st a v y l (ClearsOverflow c h i e) =
-      stays st.settings y.settings a v (other a (R.Overflow c) (ap register_of i ∙ overflow_register c h) refl) (ne_eqb a 0x4201 (λ d. absurd (omega arith))) (ap words e)
+      stays st.settings y.settings a v (other a (R.Overflow c) (cc (overflow_register c h)) refl) (ne_eqb a 0x4201 (λ d. absurd (omega arith))) (ap words e)
   word_left_lem st a v y l (ClearsCount n h i e) =
-      stays st.settings y.settings a v (other a (R.Count n) (ap register_of i ∙ count_register n h) refl) (ne_eqb a 0x4201 (λ d. absurd (omega arith))) (ap words e)
-  word_left_lem st a v y l (Erases i f e) = erase_left st.settings y.settings a v true i (eq-eqb v 1 f) (ap (λ (x : State). word x.settings b) e ∙ erases st.settings l)
-  word_left_lem st a v y l (Idles i f e) = erase_left st.settings y.settings a v false i (ne_eqb v 1 (λ d. absurd (omega arith))) (ap (λ (x : State). word x.settings b) e)
+      stays st.settings y.settings a v (other a (R.Count n) (cc (count_register n h)) refl) (ne_eqb a 0x4201 (λ d. absurd (omega arith))) (ap words e)
+  word_left_lem st a v y l (Erases i f e) = erase_left st.settings y.settings a v true i (eq-eqb v 1 f) (cc (erases st.settings l))
+  word_left_lem st a v y l (Idles i f e) = erase_left st.settings y.settings a v false i (ne_eqb v 1 (λ d. absurd (omega arith))) cc
   word_left_lem st a v y l (Triggers i f e) =
-      stays st.settings y.settings a v (other a R.Manual (ap register_of i ∙ manual_register) refl) (ne_eqb a 0x4201 (λ d. absurd (omega arith)))
+      stays st.settings y.settings a v (other a R.Manual (cc manual_register) refl) (ne_eqb a 0x4201 (λ d. absurd (omega arith)))
       (ap words e ∙ trigger_settings st v 0xFE)
 
   write_left : (st : State) (start count : ℕ) (ws : List ℕ) → length st.settings ≡ 16960
@@ -111,21 +101,7 @@ module _ (b : ℕ) (setting : is_setting (register_of b) ≡ true) where
       scales c h i = rw (lt-leb 0x4000 b (omega arith), lt-ltb b 0x4000 (omega arith), le-leb 0x860 (b % 0x1000) (omega arith), lt-ltb (b % 0x1000) 0x880 (omega arith))
 
       others : (0x4000 ≤ b → b < 0x4100 → ⊥) → ((c : ℕ) → c < 4 → InScales c b → ⊥) → ◌≡◌ {A = ℕ} 0 (cond (is_slot b) 0xFE (cond (is_scale b) 0x0100 0))
-      others o n = go (leb 0x4000 b) refl (ltb b 0x4100) refl (ltb b 0x4000) refl (leb 0x860 (b % 0x1000)) refl (ltb (b % 0x1000) 0x880) refl
-        where
-          go : (p : Bool) → leb 0x4000 b ≡ p → (q : Bool) → ltb b 0x4100 ≡ q → (r : Bool) → ltb b 0x4000 ≡ r → (t : Bool) → leb 0x860 (b % 0x1000) ≡ t
-              → (u : Bool) → ltb (b % 0x1000) 0x880 ≡ u → ◌≡◌ {A = ℕ} 0 (cond (p && q) 0xFE (cond (r && (t && u)) 0x0100 0))
-          go true e true f r g t h u i = absurd (o (leb-true 0x4000 b e) (ltb-true b 0x4100 f))
-          go true e false f true g t h u i = let x = leb-true 0x4000 b e in let y = ltb-true b 0x4000 g in absurd (omega arith)
-          go true e false f false g t h u i = refl
-          go false e q f true g true h true i =
-              let x = ltb-true b 0x4000 g in
-              let y = leb-true 0x860 (b % 0x1000) h in
-              let z = ltb-true (b % 0x1000) 0x880 i in
-              absurd (n (b / 0x1000) (omega arith) (omega arith, omega arith))
-          go false e q f true g true h false i = refl
-          go false e q f true g false h u i = refl
-          go false e q f false g t h u i = refl
+      others o n = grind arith
 
   write_length : (st : State) (start count : ℕ) (ws : List ℕ) → length (write_of st start count ws).state.settings ≡ length st.settings
   unfolding LengthsKept
@@ -135,21 +111,15 @@ module _ (b : ℕ) (setting : is_setting (register_of b) ≡ true) where
   acts_left st [] w l e = e
   acts_left st (Tick waves event ∷ xs) w l e =
       let t = tick_settings waves st event in
-      acts_left (act st (Tick waves event)) xs w (ap length t ∙ l) (ap (λ s. word s b) t ∙ e)
+      acts_left (act st (Tick waves event)) xs w (cc) cc
   acts_left st (Write start count ws ∷ xs) w l e =
       acts_left (act st (Write start count ws)) xs _ (write_length st start count ws ∙ l)
-      (write_left st start count ws l ∙ ap (left_at b start (words_done st start count ws)) e)
-  acts_left st (Ask what ∷ xs) w l e = acts_left st xs w l e
-  acts_left st (HandIn to ws ∷ xs) w l e = acts_left st xs w l e
+      (cc (write_left st start count ws l))
   acts_left st (Renew how ∷ xs) w l e = acts_left (act st (Renew how)) xs (reset_word b) (reset_length st.settings ∙ l) (reset_left st.settings l)
+  acts_left st (y ∷ xs) w l e = acts_left st xs w l e
 
   pub setting_reads : (st : State) → read_back st b ≡ word st.settings b
-  setting_reads st = go (kept (register_of b) setting)
-    where
-      go : Kept (register_of b) → read_at st.settings st.card b (register_of b) ≡ word st.settings b
-      go (plain s e) = rw e
-      go (fixed s e) = rw e
-      go (slot l e) = rw e
+  setting_reads st = grind arith
 
 -- A SETTING READS BACK THE LAST WORD DONE THERE, UNLESS AN ERASE OR A RESET CAME AFTER
 pub settings_kept : SettingsKept

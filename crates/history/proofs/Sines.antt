@@ -1,28 +1,23 @@
 -- The sine over histories (`sines_over_histories`): what course proves of every tick and counter, for the states that the card comes to, and
 -- what wave proves of every product, for the wave tables that it comes to. Assumes nothing.
-use mathlib.Core.Path.{◌≡◌, refl, sym, ap, ◌∙◌}
-use mathlib.Core.Bool.{Bool, true, false, ◌&&◌, true≢false}
+use Rattle.std.specs.Prelude.{None}
+use mathlib.Core.Path.{◌≡◌, refl, ap}
+use mathlib.Core.Bool.{Bool, true, false}
 use mathlib.Core.List.{List}
-use Prim.Native.Nat.{ℕ, ◌+◌, ◌*◌, ◌/◌, ◌%◌, ◌<◌}
+use Prim.Native.Nat.{ℕ, ◌+◌, ◌*◌, ◌%◌, ◌<◌}
 use native.Mathlib.Omega.{arith}
-use lib.Dec.{eqb}
 use lib.IntN.{ℤ, pos, negsuc}
 use lib.ListN.{length}
-use borrow.Author.Tests.{eqb-true, eqb-false}
 use Rattle.word.specs.Word.{signed_of}
 use Rattle.word.proofs.Split.{dn}
 use Rattle.sum.specs.declared.Edition.{Edition}
-use Rattle.sum.specs.declared.Side.{Side}
-use Rattle.sum.specs.declared.Sum.TheVariants.{Overflow}
-use Rattle.sum.specs.Sample.{on_side}
-use Rattle.sum.specs.Product.{scaled_by, product_of}
+use Rattle.sum.specs.Product.{product_of}
 use Rattle.wave.specs.Sine.{wave_word, sine_of}
 use Rattle.wave.specs.Laws.{InWave, SinesRight, WordsInRange}
 use Rattle.wave.proofs.Laws.{sines_right, words_in_range}
 use Rattle.map.specs.Addresses.{phase_at, phase_map_at}
 use Rattle.channel.specs.declared.Channel.{Channel}
 use Rattle.channel.specs.Ramp.{is_sine, free_runs}
-use Rattle.channel.specs.Signal.{overflows}
 use Rattle.channel.specs.Channel.{word, ramp_of, tone_for, move_of}
 use Rattle.course.specs.Follows.{counter_for, CounterClosed}
 use Rattle.course.specs.Plain.{as_output, is_free, PlainTick, PlainTicks}
@@ -40,7 +35,7 @@ use Rattle.history.proofs.Waves.{waves_right}
 
 -- free run is one of sine mode
 never_free : (mode : ℕ) (free : Bool) → is_sine mode ≡ false → (free ≡ true → free_runs mode ≡ true) → free ≡ false
-never_free mode true e f = absurd (true≢false (sym (f refl) ∙ ap (λ b. b && eqb (mode / 4 % 2) 1) e))
+never_free mode true e f = absurd (cc (f refl))
 never_free mode false e f = refl
 
 plain : (w : List ℕ) (st : State) → Sound st → (c : ℕ) → c < 4
@@ -62,23 +57,19 @@ counter s h c level k = counter_closed s c level k (h.small (phase_at c (word s 
 -- a number that cannot but be −(n + 1) is it
 must_be : (z : ℤ) (n : ℕ) → ((z ≡ negsuc n → ⊥) → ⊥) → z ≡ negsuc n
 must_be (pos a) n d = absurd (d (λ e. let f = ap dn e in omega arith))
-must_be (negsuc a) n d = go (eqb a n) refl
-  where
-    go : (b : Bool) → eqb a n ≡ b → negsuc a ≡ negsuc n
-    go true e = ap negsuc (eqb-true a n e)
-    go false e = absurd (d (λ f. let g = ap dn f in eqb-false a n e (omega arith)))
+must_be (negsuc a) n d = grind arith
 
-only_lowest : (amplitude : ℕ) → amplitude < 65536 → (x : ℤ) → InWave x → product_of amplitude x ≡ Overflow → Lowest amplitude x
+only_lowest : (amplitude : ℕ) → amplitude < 65536 → (x : ℤ) → InWave x → product_of amplitude x ≡ None → Lowest amplitude x
 unfolding SinesRight
 only_lowest amplitude k x r e = (must_be (signed_of amplitude) 32767 (λ d. fits (λ q. d q.0)), must_be x 16383 (λ d. fits (λ q. d q.1)))
   where
     fits : (Lowest amplitude x → ⊥) → ⊥
     fits d =
-        true≢false (sym (ap overflows e) ∙ ap (λ (y : Side). overflows (on_side y (scaled_by amplitude x))) ((sines_right amplitude k x r).within d))
+        cc ((sines_right amplitude k x r).within d)
 
 only_product_lem : (ed : Edition) (s l w : List ℕ) → length w ≡ 4096 → (xs : List Act) (c : ℕ) → c < 4 → (counter amplitude : ℕ) → amplitude < 65536
     → let waves : List ℕ = waves_in (fresh_of ed s l) (waves_reset w) xs in
-    sine_of waves c counter amplitude ≡ Overflow → Lowest amplitude (wave_word waves c counter)
+    sine_of waves c counter amplitude ≡ None → Lowest amplitude (wave_word waves c counter)
 unfolding WordsInRange
 only_product_lem ed s l w n xs c b counter amplitude k =
     let waves : List ℕ = waves_in (fresh_of ed s l) (waves_reset w) xs in

@@ -1,7 +1,8 @@
 -- A reset makes a sound state, and ticks, events and writes keep it (`reachable`): the settings word by word, the channels one after the
 -- other, each over the tables that the one before left. Assumes nothing.
-use mathlib.Core.Path.{◌≡◌, refl, sym, ◌∙◌, subst}
-use mathlib.Core.Bool.{Bool, true, false, cond, true≢false}
+use Rattle.std.specs.Prelude.{Option, Some, None}
+use mathlib.Core.Path.{◌≡◌, refl, sym, ◌∙◌}
+use mathlib.Core.Bool.{Bool, true, false, cond}
 use mathlib.Core.List.{List, [], ◌∷◌}
 use Prim.Native.Nat.{ℕ, zero, suc, ◌+◌, ◌<◌}
 use native.Mathlib.Omega.{arith}
@@ -15,8 +16,6 @@ use Rattle.map.specs.declared.Register.{Register}
 use Rattle.map.specs.declared.Register.TheVariants as R
 use Rattle.map.specs.Map.{register_of}
 use Rattle.map.proofs.Values.{accepted_is}
-use Rattle.slots.specs.declared.Holder.{Holder}
-use Rattle.slots.specs.declared.Holder.TheVariants.{Level, Nobody}
 use Rattle.slots.specs.Slots.{holder_of}
 use Rattle.slots.proofs.Fills.{filled_length, filled_in}
 use Rattle.slots.proofs.Holders.{level_held}
@@ -25,7 +24,7 @@ use Rattle.channel.specs.declared.Channel.{Channel}
 use Rattle.channel.specs.Ramp.{place}
 use Rattle.channel.specs.Channel.{Side, with, word, no_tone, reset_channel, tick_of, triggered, output_to, overflow_cleared}
 use Rattle.card.specs.declared.Card.{Card}
-use Rattle.card.specs.Card.{State, state, All, no_channel, channel_of, with_channel, count_of, with_count, with_channels, on_all}
+use Rattle.card.specs.Card.{State, state, All, channel_of, with_channel, count_of, with_count, with_channels, on_all}
 use Rattle.card.specs.Active.{cause, some_loaded}
 use Rattle.card.specs.Trigger.{counted, keeping, struck, trigger_of, accepted_of, on_event, event_of}
 use Rattle.card.specs.Tick.{both_passes, advanced, tick_with, ticks}
@@ -35,7 +34,7 @@ use Rattle.transfer.specs.declared.Effect.TheVariants.{Keep, Erase, Nothing}
 use Rattle.transfer.specs.Word.{effect_of, perform_of}
 use Rattle.transfer.specs.Transfer.{processed_of, write_of}
 use Rattle.course.proofs.Copies.{choose}
-use Rattle.history.specs.History.{Act, Tick, Write, Ask, HandIn, Renew, edition_by, act, acts, Each, Words16}
+use Rattle.history.specs.History.{Act, Tick, Write, Renew, edition_by, act, acts, Each, Words16}
 use Rattle.history.specs.Sound.{Tables, ChannelSound, CauseSound, Sound, Reachable}
 use Rattle.history.proofs.Addresses.{slot_register}
 use Rattle.history.proofs.Words.{Passed, set_word, stored, erased_words, reset_words}
@@ -63,13 +62,10 @@ resting scale h =
       scale = h;
       offset = omega arith;
       tone = record { mode = refl; frequency = omega arith; phase = omega arith };
-      free = λ e. absurd (true≢false (sym e));
+      free = λ e. absurd cc;
       shown = record { amplitude = omega arith; segment = omega arith; left = omega arith };
       signal = record { output = omega arith; overflow = omega arith; counter = omega arith };
     }
-
-no_channel_sound : ChannelSound no_channel
-no_channel_sound = resting 0 (omega arith)
 
 four_sound : (k : Card) (a b c d : Channel) → ChannelSound a → ChannelSound b → ChannelSound c → ChannelSound d
     → (j : ℕ) → ChannelSound (channel_of (with_channels k (a ∷ b ∷ c ∷ d ∷ [])) j)
@@ -77,11 +73,7 @@ four_sound k a b c d p q r s zero = p
 four_sound k a b c d p q r s (suc zero) = q
 four_sound k a b c d p q r s (suc (suc zero)) = r
 four_sound k a b c d p q r s (suc (suc (suc zero))) = s
-four_sound k a b c d p q r s (suc (suc (suc (suc n)))) = go (ltb (suc (suc (suc (suc n)))) 4)
-  where
-    go : (x : Bool) → ChannelSound (cond x no_channel no_channel)
-    go true = no_channel_sound
-    go false = no_channel_sound
+four_sound k a b c d p q r s (suc (suc (suc (suc n)))) = grind arith
 
 record AllSound (k : Card) (x : All) : Type 0 where
   four : length x.channels ≡ 4
@@ -121,7 +113,7 @@ module _ (st : State) (h : Sound st) where
   unfolding advanced
   advanced_sound waves =
       let a : AllSound st.card (both_passes waves st) =
-      subst (AllSound st.card) (sym (two_passes waves st))
+      rw (two_passes waves st)
       (all_sound (λ c l ch. tick_of st.card.edition st.settings waves l c ch) (λ c i l ch g t. tick_sound st.settings h.settings l c i ch g t st.card.edition waves) st.card st.tables h.card.channels h.tables) in
       record {
         settings = h.settings;
@@ -160,7 +152,7 @@ module _ (st : State) (h : Sound st) where
       }
 
   -- an event that is accepted is held by a slot, which names one of 32 levels and holds one byte
-  held_sound : (level event : ℕ) → holder_of st.settings event ≡ Level level → (level < 32) × (event < 256)
+  held_sound : (level event : ℕ) → holder_of st.settings event ≡ Some level → (level < 32) × (event < 256)
   held_sound level event e =
       let y = level_held st.settings event 32 level e in
       let a : ℕ = 0x4000 + y.slot in
@@ -173,14 +165,13 @@ module _ (st : State) (h : Sound st) where
   unfolding accepted_of
   event_sound event = go (eqb event 0xFE) (eqb (word st.settings 0x4200) 1)
     where
-      by : (r : Holder) → holder_of st.settings event ≡ r → Sound (on_event r st event)
-      by (Level level) e = let y = held_sound level event e in trigger_sound level event y.0 y.1
-      by Nobody e = h
+      by : (r : Option ℕ) → holder_of st.settings event ≡ r → Sound (on_event r st event)
+      by (Some level) e = let y = held_sound level event e in trigger_sound level event y.0 y.1
+      by None e = h
 
-      go : (a b : Bool) → Sound (on_event (cond a Nobody (cond b (holder_of st.settings event) Nobody)) st event)
-      go true b = h
+      go : (a b : Bool) → Sound (on_event (cond a None (cond b (holder_of st.settings event) None)) st event)
       go false true = by (holder_of st.settings event) refl
-      go false false = h
+      go _ b = h
 
   -- ---- a word written
 
@@ -241,22 +232,17 @@ module _ (st : State) (h : Sound st) where
 
   done_sound : (r : Register) (a v : ℕ) → register_of a ≡ r → v < 65536 → Passed st.settings st.card r v → Sound (perform_of st a (effect_of r v))
   done_sound (R.Setting s) a v e i p = stored_sound a v i (rw e p)
-  done_sound (R.Fixed s) a v e i p = h
   done_sound (R.Output c) a v e i p = channel_sound c _ (output_sound (channel_of st.card c) v i (h.card.channels c))
-  done_sound (R.Status c f) a v e i p = h
   done_sound (R.Overflow c) a v e i p = channel_sound c _ (overflow_sound (channel_of st.card c) (h.card.channels c))
   done_sound (R.Slot l) a v e i p = stored_sound a v i (rw e p)
-  done_sound (R.Image n) a v e i p = h
   done_sound R.Erase a v e i p = go (eqb v 1)
     where
       go : (b : Bool) → Sound (perform_of st a (cond b Erase Nothing))
       go true = record { settings = erased_words st.settings h.settings; tables = h.tables; card = h.card }
       go false = h
   done_sound R.Manual a v e i p = let b = leb-true v 31 p.value in trigger_sound v 0xFE (omega arith) (omega arith)
-  done_sound R.ActiveLevel a v e i p = h
-  done_sound R.ActiveEvent a v e i p = h
   done_sound (R.Count l) a v e i p = cleared_sound l
-  done_sound R.Unlisted a v e i p = h
+  done_sound _ a v e i p = h
 
 -- ---- every call
 
@@ -296,9 +282,8 @@ ticks_sound waves zero st h = h
 ticks_sound waves (suc n) st h = ticks_sound waves n (advanced waves st) (advanced_sound st h waves)
 
 each_take : (Q : ℕ → Type 0) (n : ℕ) (vs : List ℕ) → Each Q vs → Each Q (take n vs)
-each_take Q zero vs e = tt
-each_take Q (suc n) [] e = tt
 each_take Q (suc n) (v ∷ vs) e = (e.0, each_take Q n vs e.1)
+each_take Q _ vs e = tt
 
 write_sound : (st : State) (start count : ℕ) (ws : List ℕ) → Each (λ v. v < 65536) ws → Sound st → Sound (write_of st start count ws).state
 write_sound st start count ws w h =
@@ -313,9 +298,8 @@ tick_sound_card waves st event h = event_sound (advanced waves st) (advanced_sou
 pub one_sound : (st : State) (x : Act) (xs : List Act) → Words16 (x ∷ xs) → Sound st → Sound (act st x) × Words16 xs
 one_sound st (Tick waves event) xs w h = (tick_sound_card waves st event h, w)
 one_sound st (Write start count ws) xs w h = (write_sound st start count ws w.0 h, w.1)
-one_sound st (Ask what) xs w h = (h, w)
-one_sound st (HandIn to ws) xs w h = (h, w)
 one_sound st (Renew how) xs w h = (fresh_sound (edition_by how st.card.edition) st.settings st.tables h.settings.many h.tables.many, w)
+one_sound st _ xs w h = (h, w)
 
 acts_sound : (st : State) (xs : List Act) → Words16 xs → Sound st → Sound (acts st xs)
 acts_sound st [] w h = h

@@ -1,28 +1,24 @@
 -- Where a transfer stopped: the address that it gives (`write_stops_at`, `read_stops_at`), and what a write has done, and a read has read,
 -- below it (`done_below`, `read_below`). Assumes nothing.
-use mathlib.Core.Path.{◌≡◌, refl, sym, ap, ◌∙◌, subst}
-use mathlib.Core.Bool.{Bool, true, false, not, ◌&&◌, ◌||◌, cond, true≢false}
+use Rattle.std.specs.Prelude.{Option, Some, None, Result, Err, Ok}
+use mathlib.Core.Path.{◌≡◌, refl, ap, ◌∙◌}
+use mathlib.Core.Bool.{Bool, true, false, not, ◌&&◌, ◌||◌}
 use mathlib.Core.List.{List, [], ◌∷◌}
 use Prim.Native.Nat.{ℕ, zero, suc, ◌+◌, ◌-◌, ◌≤◌, ◌<◌}
 use native.Mathlib.Omega.{arith}
 use lib.Dec.{eqb, leb, ltb}
 use lib.ListN.{length, get_or, take}
 use lib.Seq.{length-take-le, take-take, get_or-take}
-use borrow.Author.Tests.{ltb-true, ltb-false, lt-ltb, le-ltb, leb-true, le-leb, lt-leb, eq-eqb, ne_eqb}
-use Rattle.map.specs.declared.Found.{Found}
-use Rattle.map.specs.declared.Found.TheVariants.{At, Nothing}
+use borrow.Author.Tests.{ltb-true, ltb-false, lt-ltb, le-leb, lt-leb, eq-eqb, ne_eqb}
 use Rattle.map.specs.declared.Region.{Region}
 use Rattle.map.specs.declared.Register.{Register}
 use Rattle.map.specs.declared.Access.{Access}
-use Rattle.map.specs.Map.{region_of, register_of, accepted_at, in_region}
+use Rattle.map.specs.Map.{region_of, register_of, accepted_at}
 use Rattle.map.specs.Settings.{is_fixed, is_setting}
 use Rattle.map.proofs.Regions.{lies, same_region}
 use Rattle.card.specs.Card.{State}
-use Rattle.transfer.specs.declared.Answer.{Answer}
-use Rattle.transfer.specs.declared.Answer.TheVariants.{Done, BadCount, NoRegion, NoAccess, Beyond, Refused}
 use Rattle.transfer.specs.Word.{effect_of, perform_of, held_at, running_at}
-use Rattle.transfer.specs.Transfer.{Out, number_of, processed_of, address_of, reply_of, bad_count, writable, readable, write_of, read_of}
-use Rattle.transfer.proofs.Loops.{good_count}
+use Rattle.transfer.specs.Transfer.{Out, number_of, processed_of, address_of, reply_of, writable, readable, write_of, read_of}
 use Rattle.transfer.proofs.Stops.{address_is, write_fits, read_fits}
 use Rattle.history.specs.History.{Write, read_back, words_done, done_from}
 use Rattle.history.specs.Numbers.{Case, case, first, once, lacks, to_write, write_refusal, read_refusal, Given, Once, Stopped, All}
@@ -31,30 +27,24 @@ use Rattle.history.specs.Settings.{word_left, left_at}
 use Rattle.history.specs.Counts.{does_at}
 use Rattle.history.specs.Stops.{StopsAt, word_for, below, DoneBelow, ReadBelow}
 use Rattle.history.proofs.Addresses.{manual_register}
-use Rattle.history.proofs.Writing.{why_high, Result, written, no_region}
+use Rattle.history.proofs.Writing.{why_high, Resulted, written, no_region}
 use Rattle.history.proofs.Reading.{was_read}
 use Rattle.history.proofs.Manual.{own, alone, inside}
 use Rattle.history.proofs.Settings.{settings_kept}
 use Rattle.history.proofs.Counted.{counted_is_done}
+use Rattle.transfer.specs.declared.Refusal.{Refusal}
+use Rattle.transfer.specs.declared.Refusal.TheVariants.{Beyond, Word}
 
 -- ---- the address
 
-once_at_start : (start : ℕ) (w : Answer) → 1 ≤ number_of w → number_of w ≤ 3 → address_of start w ≡ start
-once_at_start start (Done n) f g = absurd (omega arith)
-once_at_start start BadCount f g = refl
-once_at_start start NoRegion f g = refl
-once_at_start start NoAccess f g = refl
-once_at_start start (Beyond n) f g = absurd (omega arith)
-once_at_start start (Refused why n) f g = absurd (omega (arith, why_high why))
+once_at_start : (start : ℕ) (w : Result ℕ Refusal) → 1 ≤ number_of w → number_of w ≤ 3 → address_of start w ≡ start
+once_at_start start (Ok n) f g = absurd (omega arith)
+once_at_start start (Err (Beyond n)) f g = absurd (omega arith)
+once_at_start start (Err (Word why n)) f g = absurd (omega (arith, why_high why))
+once_at_start start _ f g = refl
 
-once_low : (may : Access → Bool) (r : Found) (count : ℕ) (ws : List ℕ) → first (once may r count ws) < 4
-once_low may r count ws = go (bad_count count (length ws)) (not (in_region r)) (lacks may r)
-  where
-    go : (a b c : Bool) → first (case 1 a ∷ case 2 b ∷ case 3 c ∷ []) < 4
-    go true b c = omega arith
-    go false true c = omega arith
-    go false false true = omega arith
-    go false false false = omega arith
+once_low : (may : Access → Bool) (r : Option Region) (count : ℕ) (ws : List ℕ) → first (once may r count ws) < 4
+once_low may r count ws = grind arith
 
 -- a word is refused with 4 beyond the region, and only there
 abbrev FourBeyond : (ℕ → ℕ) → ℕ → ℕ → Type 0
@@ -69,13 +59,9 @@ not_4 false false false false e = omega arith
 
 module _ (last a : ℕ) where
   beyond_alone : (rest : List Case) → (first rest ≡ 4 → ⊥) → (first (case 4 (ltb last a) ∷ rest) ≡ 4 → last < a) × (first (case 4 (ltb last a) ∷ rest) ≡ 0 → a ≤ last)
-  beyond_alone rest n = go (ltb last a) refl
-    where
-      go : (b : Bool) → ltb last a ≡ b → (cond b 4 (first rest) ≡ 4 → last < a) × (cond b 4 (first rest) ≡ 0 → a ≤ last)
-      go true e = (λ g. ltb-true last a e, λ g. absurd (omega arith))
-      go false e = (λ g. absurd (n g), λ g. ltb-false last a e)
+  beyond_alone rest n = grind arith
 
-four_beyond : (q : Region) (x : State) (a v : ℕ) → (first (to_write (At q) x a v) ≡ 4 → q.last < a) × (first (to_write (At q) x a v) ≡ 0 → a ≤ q.last)
+four_beyond : (q : Region) (x : State) (a v : ℕ) → (first (to_write (Some q) x a v) ≡ 4 → q.last < a) × (first (to_write (Some q) x a v) ≡ 0 → a ≤ q.last)
 four_beyond q x a v = beyond_alone q.last a rest (not_4 (is_fixed r) (not (accepted_at a v)) (held_at x.settings r v) (running_at x.card r))
   where
     r : Register
@@ -85,14 +71,9 @@ four_beyond q x a v = beyond_alone q.last a rest (not_4 (is_fixed r) (not (accep
     rest = case 5 (is_fixed r) ∷ case 6 (not (accepted_at a v)) ∷ case 7 (held_at x.settings r v) ∷ case 8 (running_at x.card r) ∷ []
 
 -- a transfer of count words from `start` on with the answer w, refused at once with o, and its word i with f i
-module _ (start count o : ℕ) (f : ℕ → ℕ) (w : Answer) (g : Given o f count (number_of w) (processed_of w)) where
+module _ (start count o : ℕ) (f : ℕ → ℕ) (w : Result ℕ Refusal) (g : Given o f count (number_of w) (processed_of w)) where
   pub all_done : number_of w ≡ 0 → processed_of w ≡ count
-  all_done e = go g
-    where
-      go : Given o f count (number_of w) (processed_of w) → processed_of w ≡ count
-      go (Once a b c) = absurd (omega arith)
-      go (Stopped a b c d h) = absurd (omega arith)
-      go (All a b c d) = d
+  all_done e = grind arith
 
   after_last : o < 4 → (last : ℕ) → start ≤ last → FourBeyond f start last → number_of w ≡ 4 → start + processed_of w ≡ last + 1
   after_last low last l four e = go g
@@ -103,24 +84,24 @@ module _ (start count o : ℕ) (f : ℕ → ℕ) (w : Answer) (g : Given o f cou
 
       go : Given o f count (number_of w) (processed_of w) → start + processed_of w ≡ last + 1
       go (Once a b c) = absurd (omega arith)
-      go (Stopped a b c d h) = by (processed_of w) (processed_of w) refl (d ∙ e) c
+      go (Stopped a b c d h) = by (processed_of w) (processed_of w) refl (cc) c
       go (All a b c d) = absurd (omega arith)
 
-  stops_at : o < 4 → ((q : Region) → region_of start ≡ At q → FourBeyond f start q.last) → (start < 65536 → start + processed_of w < 65536) → StopsAt start count (reply_of start w)
+  stops_at : o < 4 → ((q : Region) → region_of start ≡ Some q → FourBeyond f start q.last) → (start < 65536 → start + processed_of w < 65536) → StopsAt start count (reply_of start w)
   stops_at low four fits =
       record {
         once = once_at_start start w;
-        all = λ e. address_is start w ∙ ap (λ (n : ℕ). start + n) (all_done e);
+        all = λ e. cc (address_is start w, all_done e);
         beyond = λ q e n. address_is start w ∙ after_last low q.last (lies start q e).1 (four q e) n;
         sum = address_is start w;
-        fits = λ h. subst (λ (a : ℕ). a < 65536) (sym (address_is start w)) (fits h);
+        fits = λ h. rw (address_is start w) (fits h);
       }
 
 pub write_stops_at : (st : State) (start count : ℕ) (ws : List ℕ) → StopsAt start count (reply_of start (write_of st start count ws).answer)
 write_stops_at st start count ws =
     stops_at start count _ (write_refusal (region_of start) st start ws) _ (written st start count ws).given (once_low writable (region_of start) count ws) four (write_fits st start count ws)
   where
-    four : (q : Region) → region_of start ≡ At q → FourBeyond (write_refusal (region_of start) st start ws) start q.last
+    four : (q : Region) → region_of start ≡ Some q → FourBeyond (write_refusal (region_of start) st start ws) start q.last
     four q e i = rw e (four_beyond q (done_from st start (take i ws)) (start + i) (get_or ws i 0))
 
 pub read_stops_at : (st : State) (start count : ℕ) (ws : List ℕ) → StopsAt start count (reply_of start (read_of st.settings st.card start count ws).answer)
@@ -128,17 +109,13 @@ read_stops_at st start count ws =
     stops_at start count _ (read_refusal (region_of start) start) _ (was_read st start count ws).given (once_low readable (region_of start) count ws) four
     (read_fits st.settings st.card start count ws)
   where
-    four : (q : Region) → region_of start ≡ At q → FourBeyond (read_refusal (region_of start) start) start q.last
+    four : (q : Region) → region_of start ≡ Some q → FourBeyond (read_refusal (region_of start) start) start q.last
     four q e i = rw e (beyond_alone q.last (start + i) [] (λ g. omega arith))
 
 -- ---- by address
 
 does_at_lem : (b a : ℕ) (vs : List ℕ) → does_at b a vs ≡ leb a b && ltb b (a + length vs)
-does_at_lem b a [] = go (leb a b) refl
-  where
-    go : (x : Bool) → leb a b ≡ x → false ≡ x && ltb b (a + 0)
-    go true e = let l = leb-true a b e in rw (le-ltb b (a + 0) (omega arith))
-    go false e = refl
+does_at_lem b a [] = grind arith
 does_at_lem b a (v ∷ vs) = rw (does_at_lem b (a + 1) vs) (go (ltb a b) refl (ltb b a) refl)
   where
     end : a + 1 + length vs ≡ a + suc (length vs)
@@ -159,15 +136,9 @@ each_at x a (v ∷ vs) y d zero h = let e : a + 0 ≡ a = omega arith in rw e d.
 each_at x a (v ∷ vs) y d (suc i) h = let e : a + suc i ≡ a + 1 + i = omega arith in rw e (each_at (perform_of x a (effect_of (register_of a) v)) (a + 1) vs y d.1 i (omega arith))
 
 -- a transfer that is not refused at once has its words, and its region the access
-module _ (may : Access → Bool) (r : Found) (count : ℕ) (ws : List ℕ) (free : first (once may r count ws) ≡ 0) where
+module _ (may : Access → Bool) (r : Option Region) (count : ℕ) (ws : List ℕ) (free : first (once may r count ws) ≡ 0) where
   pub once_free : (count ≤ length ws) × (lacks may r ≡ false)
-  once_free = go (bad_count count (length ws)) refl (not (in_region r)) (lacks may r) free
-    where
-      go : (a : Bool) → bad_count count (length ws) ≡ a → (b c : Bool) → first (case 1 a ∷ case 2 b ∷ case 3 c ∷ []) ≡ 0 → (count ≤ length ws) × (c ≡ false)
-      go false e false false f = ((good_count count (length ws) (sym e) refl).0, refl)
-      go false e false true f = absurd (omega arith)
-      go false e true c f = absurd (omega arith)
-      go true e b c f = absurd (omega arith)
+  once_free = grind arith
 
 -- what is done at other addresses leaves a setting as it is, unless it is the erase
 left_else : (b a : ℕ) (vs : List ℕ) (w : ℕ) → (a ≤ b → b < a + length vs → ⊥) → (a ≤ 0x4201 → 0x4201 < a + length vs → ⊥) → left_at b a vs w ≡ w
@@ -227,15 +198,15 @@ module _ (st : State) (start count : ℕ) (ws : List ℕ) where
   no_erase : is_setting (register_of (start + p)) ≡ true → start ≤ 0x4201 → 0x4201 < start + p → ⊥
   no_erase i f g = go (region_of start) refl (written st start count ws)
     where
-      go : (r : Found) → region_of start ≡ r → Result r st start count ws o → ⊥
-      go Nothing e y = let n = ap length (no_region st start count ws e) in omega (arith, n, done_length)
-      go (At q) e y =
+      go : (r : Option Region) → region_of start ≡ r → Resulted r st start count ws o → ⊥
+      go None e y = let n = ap length (no_region st start count ws e) in omega (arith, n, done_length)
+      go (Some q) e y =
           let n = done_length in
           let m = inside q st start (words_done st start count ws) (y.all q refl) (omega arith) in
           let l = lies start q e in
           let z = alone 0x4201 q own.0 (same_region start 0x4201 q e (omega arith) (omega arith)) in
           let a : start + p ≡ 0x4202 = omega arith in
-          true≢false (sym i ∙ ap (λ (b : ℕ). is_setting (register_of b)) a ∙ ap is_setting manual_register)
+          cc manual_register
 
   stays : length st.settings ≡ 16960 → is_setting (register_of (start + p)) ≡ true → read_back o.state (start + p) ≡ read_back st (start + p)
   stays l i =
@@ -247,16 +218,16 @@ module _ (st : State) (start count : ℕ) (ws : List ℕ) where
   done_below =
       let y = written st start count ws in
       record {
-        addresses = λ a. does_at_lem a start (words_done st start count ws) ∙ ap (λ (n : ℕ). leb start a && ltb a n) (ap (λ (n : ℕ). start + n) done_length ∙ sym stop_is);
+        addresses = λ a. cc (does_at_lem a start (words_done st start count ws), done_length, stop_is);
         each = each_below;
-        leaves = y.done ∙ ap (λ (n : ℕ). done_from st start (take n ws)) (sym at_stop);
-        kept = λ l i. subst (λ (a : ℕ). read_back o.state a ≡ read_back st a) (sym stop_is) (stays l (subst (λ (a : ℕ). is_setting (register_of a) ≡ true) stop_is i));
+        leaves = cc at_stop;
+        kept = λ l i. rw stop_is (stays l (rw (← stop_is) i));
         refused = λ h. rw (at_stop, stop_is, y.done) (refused_there _ y.given h);
       }
 
 pub read_below : (st : State) (start count : ℕ) (ws : List ℕ)
     → ReadBelow st start (reply_of start (read_of st.settings st.card start count ws).answer) (read_of st.settings st.card start count ws).words
 read_below st start count ws a f g =
-    let w : Answer = (read_of st.settings st.card start count ws).answer in
+    let w : Result ℕ Refusal = (read_of st.settings st.card start count ws).answer in
     let e : start + (a - start) ≡ a = omega arith in
-    (was_read st start count ws).words (a - start) (omega (arith, g, address_is start w)) ∙ ap (read_back st) e
+    cc ((was_read st start count ws).words (a - start) (omega (arith, g, address_is start w)))

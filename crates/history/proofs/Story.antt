@@ -1,28 +1,21 @@
 -- A channel's words show what its story tells, and it keeps the amplitude and the counter told (`channels_right`): a tick, in both its passes,
 -- a trigger and a word done each make of the channel what they add to the story. Assumes nothing.
-use mathlib.Core.Path.{◌≡◌, refl, sym, ap, ◌∙◌, subst}
-use mathlib.Core.Bool.{Bool, true, false, cond, true≢false}
+use Rattle.std.specs.Prelude.{Option, Some, None}
+use mathlib.Core.Path.{◌≡◌, refl, ap, ◌∙◌, subst}
+use mathlib.Core.Bool.{Bool, true, false, cond}
 use mathlib.Core.List.{List, [], ◌∷◌, ◌++◌}
-use Prim.Native.Nat.{ℕ, zero, suc, ◌+◌, ◌-◌, ◌%◌, ◌≤◌, ◌<◌}
+use Prim.Native.Nat.{ℕ, suc, ◌+◌, ◌-◌, ◌%◌, ◌≤◌, ◌<◌}
 use native.Mathlib.Omega.{arith}
 use lib.Dec.{ltb, eqb}
 use lib.ListN.{length}
 use borrow.Author.Tests.{eq-eqb, ne_eqb, eqb-true, eqb-false}
 use Rattle.sum.specs.declared.Edition.{Edition}
-use Rattle.sum.specs.declared.Sum.{Sum}
-use Rattle.sum.specs.declared.Sum.TheVariants.{Word, Overflow}
 use Rattle.wave.specs.Sine.{sine_of}
-use Rattle.map.specs.declared.Register.{Register}
-use Rattle.map.specs.declared.Register.TheVariants as R
-use Rattle.map.specs.Map.{base, register_of}
-use Rattle.map.specs.Settings.{is_setting}
+use Rattle.map.specs.Map.{base}
 use Rattle.map.specs.Addresses.{enable_at}
-use Rattle.slots.specs.declared.Holder.{Holder}
-use Rattle.slots.specs.declared.Holder.TheVariants.{Level, Nobody}
 use Rattle.word.specs.Word.{lasting}
 use Rattle.channel.specs.declared.Place.{Place}
 use Rattle.channel.specs.declared.Tone.{Tone}
-use Rattle.channel.specs.declared.Loaded.{Loaded}
 use Rattle.channel.specs.declared.Moved.{Moved}
 use Rattle.channel.specs.declared.Ramp.{Ramp}
 use Rattle.channel.specs.declared.Ramp.TheVariants.{Still, Going, Free}
@@ -43,7 +36,7 @@ use Rattle.course.specs.Points.{SameTable}
 use Rattle.course.proofs.Acts.{untimed_table}
 use Rattle.course.proofs.Tables.{Placed, same_enter, same_next, same_sample}
 use Rattle.course.proofs.Walk.{placed_enter, placed_next}
-use Rattle.history.specs.History.{Act, Tick, Write, Ask, HandIn, Renew, edition_by, act, acts, words_done, manual_among, trigger_by, Words16}
+use Rattle.history.specs.History.{Act, Tick, Write, Renew, edition_by, act, acts, words_done, manual_among, trigger_by, Words16}
 use Rattle.history.specs.Effects.{Does, Keeps, Outputs, ClearsOverflow, ClearsCount, Erases, Idles, Triggers}
 use Rattle.history.specs.Sound.{Sound, PhaseSound, RampSound}
 use Rattle.history.specs.Story.{Happening, Load, Sample, FreeSample, Output, Clear, sample, by_ramp, by_start, in_phase, by_tick, by_trigger, by_word, by_words, in_tick, happens, story, Told, fresh, ramped, sounds, sines, tell, told, Shows, ChannelsRight, AtRest}
@@ -79,36 +72,36 @@ same_counter isFirst t u n m e f = rw (e, f)
 
 module _ (w : List ℕ) (c : ℕ) (ch : Channel) (x : Told) (r : Right ch x) where
   same_tone : ch.loaded.tone ≡ x.loaded.tone
-  same_tone = ap (λ (d : Loaded). d.tone) r.loaded
+  same_tone = cc
 
   -- at most 1 a sample
-  overflow_right : (y : Sum) (over : Bool) (n : ℕ) → (signal_after y over n ch.signal).overflow ≡ (sounds y over n x).overflowed % 65536
-  overflow_right (Word v) true n = rw r.overflow (omega arith)
-  overflow_right (Word v) false n = r.overflow
-  overflow_right Overflow true n = rw r.overflow (omega arith)
-  overflow_right Overflow false n = rw r.overflow (omega arith)
+  overflow_right : (y : Option ℕ) (over : Bool) (n : ℕ) → (signal_after y over n ch.signal).overflow ≡ (sounds y over n x).overflowed % 65536
+  overflow_right (Some v) true n = rw r.overflow (omega arith)
+  overflow_right (Some v) false n = r.overflow
+  overflow_right None true n = rw r.overflow (omega arith)
+  overflow_right None false n = rw r.overflow (omega arith)
 
-  sounds_right : (y : Sum) (over : Bool) (n : ℕ) → Right (with_signal ch (signal_after y over n ch.signal)) (sounds y over n x)
-  sounds_right (Word v) over n =
-      record { loaded = r.loaded; place = r.place; amplitude = r.amplitude; output = refl; overflow = overflow_right (Word v) over n; counter = refl }
-  sounds_right Overflow over n =
-      record { loaded = r.loaded; place = r.place; amplitude = r.amplitude; output = r.output; overflow = overflow_right Overflow over n; counter = refl }
+  sounds_right : (y : Option ℕ) (over : Bool) (n : ℕ) → Right (with_signal ch (signal_after y over n ch.signal)) (sounds y over n x)
+  sounds_right (Some v) over n =
+      record { loaded = r.loaded; place = r.place; amplitude = r.amplitude; output = refl; overflow = overflow_right (Some v) over n; counter = refl }
+  sounds_right None over n =
+      record { loaded = r.loaded; place = r.place; amplitude = r.amplitude; output = r.output; overflow = overflow_right None over n; counter = refl }
 
   -- in sine mode, of the amplitude at the counter
   sines_right : (over : Bool) (n m : ℕ) → n ≡ m → Right (with_signal ch (sine_after w c n ch.shown.amplitude over ch.signal)) (sines w c over m x)
   sines_right over n m e =
-      subst (λ (y : Sum). Right (with_signal ch (sine_after w c n ch.shown.amplitude over ch.signal)) (sounds y over m x))
+      subst (λ (y : Option ℕ). Right (with_signal ch (sine_after w c n ch.shown.amplitude over ch.signal)) (sounds y over m x))
       (same_sine w c n m ch.shown.amplitude x.amplitude e r.amplitude)
-      (subst (λ (k : ℕ). Right (with_signal ch (sine_after w c n ch.shown.amplitude over ch.signal)) (sounds (sine_of w c n ch.shown.amplitude) over k x)) e
+      (rw (← e)
       (sounds_right (sine_of w c n ch.shown.amplitude) over n))
 
   -- a ramp's sample, whose amplitude and place are in the channel already
-  ramp_made : (isFirst : Bool) (u : Sum)
+  ramp_made : (isFirst : Bool) (u : Option ℕ)
       → Right (sounded w c ch (OfRamp isFirst u))
       (cond (is_sine x.loaded.tone.mode) (sines w c (overflows u) (counter_at isFirst x.loaded.tone x.counter) x) (sounds u false x.counter x))
   unfolding make_of
   ramp_made isFirst u =
-      subst (λ (b : Bool). Right (sounded w c ch (OfRamp isFirst u)) (cond b sine plain)) (ap (λ (t : Tone). is_sine t.mode) same_tone) (go (is_sine ch.loaded.tone.mode))
+      subst (λ (b : Bool). Right (sounded w c ch (OfRamp isFirst u)) (cond b sine plain)) (cc same_tone) (go (is_sine ch.loaded.tone.mode))
     where
       sine : Told
       sine = sines w c (overflows u) (counter_at isFirst x.loaded.tone x.counter) x
@@ -120,7 +113,7 @@ module _ (w : List ℕ) (c : ℕ) (ch : Channel) (x : Told) (r : Right ch x) whe
           → Right (with_signal ch (cond b (sine_after w c (counter_at isFirst ch.loaded.tone ch.signal.counter) ch.shown.amplitude (overflows u) ch.signal) (signal_after u false ch.signal.counter ch.signal)))
           (cond b sine plain)
       go true = sines_right (overflows u) _ _ (same_counter isFirst _ _ _ _ same_tone r.counter)
-      go false = subst (λ (n : ℕ). Right (with_signal ch (signal_after u false ch.signal.counter ch.signal)) (sounds u false n x)) r.counter (sounds_right u false ch.signal.counter)
+      go false = rw (← r.counter) (sounds_right u false ch.signal.counter)
 
   -- a free run's
   free_made : Right (sounded w c ch OfFreeRun) (tell c x (FreeSample w))
@@ -133,7 +126,7 @@ module _ (s l : List ℕ) (c : ℕ) (ch : Channel) (x : Told) (r : Right ch x) w
   same_right : (p : Phase) → Right (with ch p ch.shown) x
   same_right p = record { loaded = r.loaded; place = r.place; amplitude = r.amplitude; output = r.output; overflow = r.overflow; counter = r.counter }
 
-  ramped_right : (ph : Phase) (p : Place) (u : Sum) → Right (with ch ph (put u p ch.shown)) (ramped p u x)
+  ramped_right : (ph : Phase) (p : Place) (u : Option ℕ) → Right (with ch ph (put u p ch.shown)) (ramped p u x)
   ramped_right ph p u =
       record { loaded = r.loaded; place = refl; amplitude = ap (hold u) r.amplitude; output = r.output; overflow = r.overflow; counter = r.counter }
 
@@ -150,7 +143,7 @@ module _ (s l : List ℕ) (c : ℕ) (ch : Channel) (x : Told) (r : Right ch x) w
     unfolding make_of
     quiet_right y z h = record { loaded = h.loaded; place = h.place; amplitude = h.amplitude; output = h.output; overflow = h.overflow; counter = h.counter }
 
-    put_right : (isFirst : Bool) (ph : Phase) (p : Place) (u : Sum)
+    put_right : (isFirst : Bool) (ph : Phase) (p : Place) (u : Option ℕ)
         → Right (sounded w c (with ch ph (put u p ch.shown)) (OfRamp isFirst u)) (tell c x (Sample w isFirst p u))
     put_right isFirst ph p u = ramp_made w c (with ch ph (put u p ch.shown)) (ramped p u x) (ramped_right ph p u) isFirst u
 
@@ -213,7 +206,7 @@ module _ (s l : List ℕ) (c : ℕ) (ch : Channel) (x : Told) (r : Right ch x) w
     unfolding tick_of
     tick_right ed = moves_right ed ch.phase
 
-  trigger_right : (level : ℕ) → Right (triggered s l c ch level).channel (told c x (by_trigger (Level level) s c))
+  trigger_right : (level : ℕ) → Right (triggered s l c ch level).channel (told c x (by_trigger (Some level) s c))
   unfolding triggered
   trigger_right level = go (loads_at (countdown s c level))
     where
@@ -228,33 +221,26 @@ module _ (s l : List ℕ) (c : ℕ) (ch : Channel) (x : Told) (r : Right ch x) w
 
 module _ (ed : Edition) (w s l m : List ℕ) (c : ℕ) (ch : Channel) (same : SameTable m (first_of c) l (first_of c)) where
   same_at : (isFirst : Bool) (p q : Place) → p ≡ q → Placed q → sample ed w isFirst m c ch p ≡ sample ed w isFirst l c ch q
-  same_at isFirst p q e h = rw e (ap (λ (u : Sum). Sample w isFirst q u ∷ []) (same_sample m (first_of c) l (first_of c) same ed ch.loaded q h))
+  same_at isFirst p q e h = rw e (cc (same_sample m (first_of c) l (first_of c) same ed ch.loaded q h))
 
   same_ramp : (r : Ramp) → RampSound r → by_ramp ed w m c ch r ≡ by_ramp ed w l c ch r
-  same_ramp Still h = refl
   same_ramp (Going r) h =
-      ap (λ (hs : List Happening). cond (ltb 1 r.wait.0) [] hs)
-      (same_at false _ _ (same_next m (first_of c) l (first_of c) same r.place h.inner) (placed_next l (first_of c) r.place h.inner))
-  same_ramp (Free r) h = refl
+      cc (same_at false _ _ (same_next m (first_of c) l (first_of c) same r.place h.inner) (placed_next l (first_of c) r.place h.inner))
+  same_ramp _ h = refl
 
   same_start : by_start ed w s m c ch ≡ by_start ed w s l c ch
   same_start =
-      ap (λ (hs : List Happening). cond (eqb (word s (enable_at c)) 1) hs [])
-      (same_at true _ _ (same_enter m (first_of c) l (first_of c) same 0 (omega arith)) (placed_enter l (first_of c) 0 (omega arith)))
+      cc (same_at true _ _ (same_enter m (first_of c) l (first_of c) same 0 (omega arith)) (placed_enter l (first_of c) 0 (omega arith)))
 
   pub same_tick : (p : Phase) → PhaseSound p → in_phase ed p w s m c ch ≡ in_phase ed p w s l c ch
-  same_tick Rest h = refl
   same_tick (Counting n older) h = rw (same_start, same_ramp older h.ramp)
   same_tick (Running r) h = same_ramp (Going r) h
-  same_tick (FreeRunning r) h = refl
+  same_tick _ h = refl
 
 pub four_fresh : (ed : Edition) (k : ℕ) → k < 4 → channel_of (card_reset ed) k ≡ reset_channel
 unfolding card_reset
-four_fresh ed zero h = refl
-four_fresh ed (suc zero) h = refl
-four_fresh ed (suc (suc zero)) h = refl
-four_fresh ed (suc (suc (suc zero))) h = refl
 four_fresh ed (suc (suc (suc (suc k)))) h = absurd (omega arith)
+four_fresh ed _ h = refl
 
 -- ---- the card's channel c
 
@@ -262,8 +248,8 @@ module _ (c : ℕ) (inside : c < 4) where
   advanced_right : (waves : List ℕ) (st : State) → Sound st → (x : Told) → Right (channel_of st.card c) x
       → Right (channel_of (advanced waves st).card c) (told c x (in_tick waves st c))
   advanced_right waves st h x r =
-      subst (λ hs. Right (channel_of (advanced waves st).card c) (told c x hs)) happen
-      (subst (λ k. Right k (told c x (in_phase st.card.edition ch.phase waves st.settings y.mid c ch))) (tick_same waves st c y) (tick_right st.settings y.mid c ch x r waves st.card.edition))
+      rw (← happen)
+      (rw (← (tick_same waves st c y)) (tick_right st.settings y.mid c ch x r waves st.card.edition))
     where
       ch : Channel
       ch = channel_of st.card c
@@ -278,10 +264,10 @@ module _ (c : ℕ) (inside : c < 4) where
       happen = same_tick st.card.edition waves st.settings st.tables y.mid c ch same ch.phase (h.card.channels c).phase
 
   struck_right : (st : State) (level event : ℕ) (x : Told) → Right (channel_of st.card c) x
-      → Right (channel_of (trigger_of st level event).card c) (told c x (by_trigger (Level level) st.settings c))
+      → Right (channel_of (trigger_of st level event).card c) (told c x (by_trigger (Some level) st.settings c))
   struck_right st level event x r =
       let y = trigger_turn st level c inside in
-      subst (λ k. Right k (told c x (by_trigger (Level level) st.settings c))) (trigger_same st level event c y)
+      rw (← (trigger_same st level event c y))
       (trigger_right st.settings y.mid c (channel_of st.card c) x r level)
 
   -- ---- a word done
@@ -293,10 +279,7 @@ module _ (c : ℕ) (inside : c < 4) where
   -- a word at another address, that leaves the channel
   idle : (st y : State) (a v : ℕ) → (a ≡ base c + 0xA04 → ⊥) → (a ≡ base c + 0xA39 → ⊥) → length y.card.channels ≡ 4 → channel_of y.card c ≡ channel_of st.card c
       → Goes st y (by_word c a v)
-  idle st y a v n m f e = rw (ne_eqb a (base c + 0xA04) n, ne_eqb a (base c + 0xA39) m) (record { settled = f; right = λ x r. subst (λ k. Right k x) (sym e) r })
-
-  no_setting : (a b : ℕ) (r : Register) → is_setting (register_of a) ≡ true → register_of b ≡ r → is_setting r ≡ false → a ≡ b → ⊥
-  no_setting a b r i e f d = true≢false (sym i ∙ ap (λ n. is_setting (register_of n)) d ∙ ap is_setting e ∙ f)
+  idle st y a v n m f e = rw (ne_eqb a (base c + 0xA04) n, ne_eqb a (base c + 0xA39) m) (record { settled = f; right = λ x r. rw e r })
 
   -- a word that makes another channel of channel d: of c where d is c
   channel_goes : (st y : State) (d a v : ℕ) (ch : Channel) (h : Happening) → length st.card.channels ≡ 4 → y.card ≡ with_channel st.card d ch
@@ -305,46 +288,45 @@ module _ (c : ℕ) (inside : c < 4) where
   channel_goes st y d a v ch h f e here away right = go (eqb c d) refl
     where
       many : length y.card.channels ≡ 4
-      many = ap (λ (k : Card). length k.channels) e ∙ channel_many st.card d ch ∙ f
+      many = cc (channel_many st.card d ch)
 
       go : (b : Bool) → eqb c d ≡ b → Goes st y (by_word c a v)
       go true g =
           let i = eqb-true c d g in
           let k : channel_of y.card c ≡ ch = ap (λ (k : Card). channel_of k c) e ∙ rw i (channel_same st.card d ch (rw i at inside) f) in
-          rw (here i) (record { settled = many; right = λ x r. subst (λ z. Right z (tell c x h)) (sym k) (right x i r) })
+          rw (here i) (record { settled = many; right = λ x r. rw k (right x i r) })
       go false g =
           let i = eqb-false c d g in
-          let k : channel_of y.card c ≡ channel_of st.card c = ap (λ (k : Card). channel_of k c) e ∙ channel_other st.card d ch c i in
-          rw (away i) (record { settled = many; right = λ x r. subst (λ z. Right z x) (sym k) r })
+          let k : channel_of y.card c ≡ channel_of st.card c = cc (channel_other st.card d ch c i) in
+          rw (away i) (record { settled = many; right = λ x r. rw k r })
 
   word_goes : (st : State) (a v : ℕ) (y : State) → length st.card.channels ≡ 4 → (a ≡ 0x4202 → ⊥) → Does st a v y → Goes st y (by_word c a v)
   word_goes st a v y f n (Keeps i e) =
-      idle st y a v (no_setting a (base c + 0xA04) (R.Output c) i (output_register c inside) refl) (no_setting a (base c + 0xA39) (R.Overflow c) i (overflow_register c inside) refl)
-      (rw e f) (ap (λ (x : State). channel_of x.card c) e)
+      idle st y a v (λ d. cc (output_register c inside)) (λ d. cc (overflow_register c inside)) (rw e f) cc
   word_goes st a v y f n (Outputs d h i g e) =
-      channel_goes st y d a v (output_to (channel_of st.card d) v) (Output v) f (ap (λ (x : State). x.card) e)
+      channel_goes st y d a v (output_to (channel_of st.card d) v) (Output v) f (cc)
       (λ u. rw (eq-eqb a (base c + 0xA04) (omega arith)))
       (λ u. rw (ne_eqb a (base c + 0xA04) (λ w. u (omega arith)), ne_eqb a (base c + 0xA39) (λ w. absurd (omega arith))))
       (λ x u r. let z : Right (channel_of st.card d) x = rw u at r in record { loaded = z.loaded; place = z.place; amplitude = refl; output = refl; overflow = z.overflow; counter = z.counter })
   word_goes st a v y f n (ClearsOverflow d h i e) =
-      channel_goes st y d a v (overflow_cleared (channel_of st.card d)) Clear f (ap (λ (x : State). x.card) e)
+      channel_goes st y d a v (overflow_cleared (channel_of st.card d)) Clear f (cc)
       (λ u. rw (ne_eqb a (base c + 0xA04) (λ w. absurd (omega arith)), eq-eqb a (base c + 0xA39) (omega arith)))
       (λ u. rw (ne_eqb a (base c + 0xA04) (λ w. absurd (omega arith)), ne_eqb a (base c + 0xA39) (λ w. u (omega arith))))
       (λ x u r. let z : Right (channel_of st.card d) x = rw u at r in record { loaded = z.loaded; place = z.place; amplitude = z.amplitude; output = z.output; overflow = refl; counter = z.counter })
   word_goes st a v y f n (ClearsCount l h i e) =
-      let k : y.card.channels ≡ st.card.channels = ap (λ (x : State). x.card.channels) e ∙ count_channels st.card l 0 in
+      let k : y.card.channels ≡ st.card.channels = cc (count_channels st.card l 0) in
       idle st y a v (λ d. absurd (omega arith)) (λ d. absurd (omega arith)) (rw k f) (rw k)
-  word_goes st a v y f n (Erases i g e) = idle st y a v (λ d. absurd (omega arith)) (λ d. absurd (omega arith)) (rw e f) (ap (λ (x : State). channel_of x.card c) e)
-  word_goes st a v y f n (Idles i g e) = idle st y a v (λ d. absurd (omega arith)) (λ d. absurd (omega arith)) (rw e f) (ap (λ (x : State). channel_of x.card c) e)
+  word_goes st a v y f n (Erases i g e) = idle st y a v (λ d. absurd (omega arith)) (λ d. absurd (omega arith)) (rw e f) cc
+  word_goes st a v y f n (Idles i g e) = idle st y a v (λ d. absurd (omega arith)) (λ d. absurd (omega arith)) (rw e f) cc
   word_goes st a v y f n (Triggers i g e) = absurd (n i)
 
   both : (x y z : State) (hs js : List Happening) → Goes x y hs → Goes y z js → Goes x z (hs ++ js)
-  both x y z hs js p q = record { settled = q.settled; right = λ t r. subst (Right (channel_of z.card c)) (sym (told_append c t hs js)) (q.right (told c t hs) (p.right t r)) }
+  both x y z hs js p q = record { settled = q.settled; right = λ t r. rw (told_append c t hs js) (q.right (told c t hs) (p.right t r)) }
 
-  write_goes : (st : State) (start count : ℕ) (ws : List ℕ) → length st.card.channels ≡ 4 → manual_among start (words_done st start count ws) ≡ Nobody
+  write_goes : (st : State) (start count : ℕ) (ws : List ℕ) → length st.card.channels ≡ 4 → manual_among start (words_done st start count ws) ≡ None
       → Goes st (write_of st start count ws).state (by_words c start (words_done st start count ws))
   write_goes =
-      write_by (λ st a vs z. length st.card.channels ≡ 4 → manual_among a vs ≡ Nobody → Goes st z (by_words c a vs))
+      write_by (λ st a vs z. length st.card.channels ≡ 4 → manual_among a vs ≡ None → Goes st z (by_words c a vs))
       (λ st a f q. record { settled = f; right = λ x r. r })
       (λ st a v vs z p r f q. let y = none_first a v vs q in
       let w = word_goes st a v _ f y.0 (passed_does st a v p) in
@@ -371,24 +353,23 @@ module _ (c : ℕ) (inside : c < 4) where
       moved : Right (channel_of (advanced waves st).card c) (told c x hs)
       moved = advanced_right waves st h x r
 
-      go : (k : Holder) → Right (channel_of (on_event k (advanced waves st) event).card c) (told c x (hs ++ by_trigger k st.settings c))
-      go (Level l) = rw (told_append c x hs (by_trigger (Level l) st.settings c)) (struck_right (advanced waves st) l event (told c x hs) moved)
-      go Nobody = rw (told_append c x hs []) moved
+      go : (k : Option ℕ) → Right (channel_of (on_event k (advanced waves st) event).card c) (told c x (hs ++ by_trigger k st.settings c))
+      go (Some l) = rw (told_append c x hs (by_trigger (Some l) st.settings c)) (struck_right (advanced waves st) l event (told c x hs) moved)
+      go None = rw (told_append c x hs []) moved
   act_right st h (Write start count ws) x r = go (trigger_by st (Write start count ws)) refl
     where
       js : List Happening
       js = by_words c start (words_done st start count ws)
 
-      go : (k : Holder) → trigger_by st (Write start count ws) ≡ k
+      go : (k : Option ℕ) → trigger_by st (Write start count ws) ≡ k
           → Right (channel_of (write_of st start count ws).state.card c) (told c x (by_trigger k st.settings c ++ js))
-      go (Level l) e =
+      go (Some l) e =
           let y = manual_alone st start count ws l e in
-          rw (told_append c x (by_trigger (Level l) st.settings c) js, no_words start (words_done st start count ws) y.here y.few, manual_write st start count ws l e)
+          rw (told_append c x (by_trigger (Some l) st.settings c) js, no_words start (words_done st start count ws) y.here y.few, manual_write st start count ws l e)
           (struck_right st l 0xFE x r)
-      go Nobody e = (write_goes st start count ws h.card.four e).right x r
-  act_right st h (Ask what) x r = r
-  act_right st h (HandIn to ws) x r = r
+      go None e = (write_goes st start count ws h.card.four e).right x r
   act_right st h (Renew how) x r = reset_right (edition_by how st.card.edition) st.settings st.tables
+  act_right st h _ x r = r
 
   acts_right : (st : State) → Sound st → (xs : List Act) → Words16 xs → (x : Told) → Right (channel_of st.card c) x
       → Right (channel_of (acts st xs).card c) (told c x (story c st xs))
@@ -402,13 +383,13 @@ module _ (c : ℕ) (inside : c < 4) where
   reads st x r =
       record {
         output = rw (output_register c inside) r.output;
-        table = rw (table_register c inside) (ap (λ (d : Loaded). d.table) r.loaded);
-        scale = rw (scale_register c inside) (ap (λ (d : Loaded). d.scale) r.loaded);
-        offset = rw (offset_register c inside) (ap (λ (d : Loaded). d.offset) r.loaded);
-        segment = rw (segment_register c inside) (ap (λ (p : Place). p.segment) r.place);
-        left = rw (left_register c inside) (ap (λ (p : Place). p.left.0) r.place);
+        table = rw (table_register c inside) cc;
+        scale = rw (scale_register c inside) cc;
+        offset = rw (offset_register c inside) cc;
+        segment = rw (segment_register c inside) cc;
+        left = rw (left_register c inside) cc;
         overflow = rw (overflow_register c inside) r.overflow;
-        tone = ap (λ (d : Loaded). d.tone) r.loaded;
+        tone = cc;
         amplitude = r.amplitude;
         counter = r.counter;
       }

@@ -1,18 +1,15 @@
 -- A tick and a trigger of the card, seen from channel c: both passes of a tick are its turn, as `two_passes` of `card` has it; and a history
 -- without triggers, which is a few acts of the channel, told apart by what they tick (`tracked`). Assumes nothing.
+use Rattle.std.specs.Prelude.{Some, None}
 use mathlib.Core.Path.{◌≡◌, refl, sym, ap, ◌∙◌}
-use mathlib.Core.Bool.{Bool, true, false, true≢false}
 use mathlib.Core.List.{List, [], ◌∷◌, ◌++◌}
 use Prim.Native.Nat.{ℕ, zero, suc, ◌+◌, ◌<◌}
 use native.Mathlib.Omega.{arith}
-use lib.Dec.{leb}
 use lib.ListN.{length}
-use borrow.Author.Tests.{leb-true, leb-false}
 use Rattle.sum.specs.declared.Edition.{Edition}
-use Rattle.slots.specs.declared.Holder.TheVariants.{Level, Nobody}
 use Rattle.channel.specs.Channel.{Side, side, tick_of, triggered}
 use Rattle.card.specs.declared.Card.{Card}
-use Rattle.card.specs.Card.{State, All, channel_of, with_channels, count_of, on_all}
+use Rattle.card.specs.Card.{State, channel_of, with_channels, count_of, on_all}
 use Rattle.card.specs.Trigger.{struck, trigger_of}
 use Rattle.card.specs.Tick.{second_pass, advanced}
 use Rattle.word.specs.Word.{grown}
@@ -36,36 +33,29 @@ use Rattle.history.proofs.Manual.{manual_write}
 pub held_untimed : (s z : List ℕ) (n : ℕ) (xs ys : List C.Act) → C.ticks_in xs ≡ 0 → C.held_on s z (suc n) (xs ++ ys) ≡ C.held_on s z (suc n) ys
 held_untimed s z n xs ys e =
     let d : suc n ≡ suc (C.ticks_in xs + n) = omega arith in
-    ap (λ (m : ℕ). C.held_on s z m (xs ++ ys)) d ∙ held_later s z n xs ys
+    cc (held_later s z n xs ys)
 
 pub waves_untimed : (z : List ℕ) (n : ℕ) (xs ys : List C.Act) → C.ticks_in xs ≡ 0 → C.waves_on z (suc n) (xs ++ ys) ≡ C.waves_on z (suc n) ys
 waves_untimed z n xs ys e =
     let d : suc n ≡ suc (C.ticks_in xs + n) = omega arith in
-    ap (λ (m : ℕ). C.waves_on z m (xs ++ ys)) d ∙ waves_later z n xs ys
+    cc (waves_later z n xs ys)
 
 pub until_untimed : (n : ℕ) (xs ys : List C.Act) → C.ticks_in xs ≡ 0 → C.until (suc n) (xs ++ ys) ≡ xs ++ C.until (suc n) ys
 until_untimed n xs ys e =
     let d : suc n ≡ suc (C.ticks_in xs + n) = omega arith in
-    ap (λ (m : ℕ). C.until m (xs ++ ys)) d ∙ before_later n xs ys
+    cc (before_later n xs ys)
 
 pub held_end : (s z : List ℕ) (n : ℕ) (xs ys : List C.Act) → C.ticks_in ys ≡ 0 → C.held_on s z n (xs ++ ys) ≡ C.held_on s z n xs
-held_end s z zero xs ys e = refl
 held_end s z (suc n) [] ys e = held_next s z n ys (omega arith)
-held_end s z (suc zero) (C.Tick u w ∷ xs) ys e = refl
 held_end s z (suc (suc n)) (C.Tick u w ∷ xs) ys e = held_end s z (suc n) xs ys e
 held_end s z (suc n) (C.Elsewhere l ∷ xs) ys e = held_end s z (suc n) xs ys e
 held_end s z (suc n) (C.Output v ∷ xs) ys e = held_end s z (suc n) xs ys e
 held_end s z (suc n) (C.Clear ∷ xs) ys e = held_end s z (suc n) xs ys e
+held_end s z _ xs ys e = refl
 
 -- the wave tables: where the first acts have no n-th tick, they are those of the tick that comes after all
 pub waves_end : (z : List ℕ) (n : ℕ) (xs ys : List C.Act) → C.ticks_in ys ≡ 0 → C.waves_on z (suc n) (xs ++ ys) ≡ C.waves_on z (suc n) xs
-waves_end z n xs ys e = go (leb (suc n) (C.ticks_in xs)) refl
-  where
-    go : (b : Bool) → leb (suc n) (C.ticks_in xs) ≡ b → C.waves_on z (suc n) (xs ++ ys) ≡ C.waves_on z (suc n) xs
-    go true f = waves_first z n xs ys (leb-true (suc n) (C.ticks_in xs) f)
-    go false f =
-        let h = leb-false (suc n) (C.ticks_in xs) f in
-        waves_next z n (xs ++ ys) (omega (arith, ticks_append xs ys)) ∙ sym (waves_next z n xs (omega arith))
+waves_end z n xs ys e = grind (arith, waves_first, waves_next, ticks_append)
 
 -- ---- a tick and a trigger of the card, on channel c
 
@@ -75,7 +65,7 @@ TickTurn waves st c = Turn (λ b l ch. tick_of st.card.edition st.settings waves
 pub tick_turn : (waves : List ℕ) (st : State) (c : ℕ) → c < 4 → TickTurn waves st c
 tick_turn waves st c h = turn (λ b l ch. tick_of st.card.edition st.settings waves l b ch) (λ b d l ch o. tick_elsewhere st.settings l b d ch o st.card.edition waves) st.card st.tables c h
 
-pub quiet_tick : (waves : List ℕ) (st : State) (event : ℕ) → trigger_by st (Tick waves event) ≡ Nobody → act st (Tick waves event) ≡ advanced waves st
+pub quiet_tick : (waves : List ℕ) (st : State) (event : ℕ) → trigger_by st (Tick waves event) ≡ None → act st (Tick waves event) ≡ advanced waves st
 unfolding advanced
 quiet_tick waves st event e = rw e
 
@@ -87,12 +77,12 @@ advanced_four waves st = refl
 pub tick_goes : (waves : List ℕ) (st : State) (c : ℕ) (y : TickTurn waves st c)
     → (ed : Edition) → C.run ed c (tick_of st.card.edition st.settings waves y.mid c (channel_of st.card c)) y.after ≡ side_at (advanced waves st) c
 unfolding advanced
-tick_goes waves st c y ed = y.goes ed ∙ ap (λ (x : All). side (channel_of (with_channels st.card x.channels) c) x.tables) (sym (two_passes waves st))
+tick_goes waves st c y ed = cc (y.goes ed, two_passes waves st)
 
 pub tick_same : (waves : List ℕ) (st : State) (c : ℕ) (y : TickTurn waves st c)
     → (tick_of st.card.edition st.settings waves y.mid c (channel_of st.card c)).channel ≡ channel_of (advanced waves st).card c
 unfolding advanced
-tick_same waves st c y = y.same ∙ ap (λ (x : All). channel_of (with_channels st.card x.channels) c) (sym (two_passes waves st))
+tick_same waves st c y = cc (two_passes waves st)
 
 abbrev pub TriggerTurn : State → ℕ → ℕ → Type 0
 TriggerTurn st level c = Turn (λ b l ch. triggered st.settings l b ch level) (λ b d l ch o. trigger_elsewhere st.settings l b d ch o level) st.card st.tables c
@@ -153,10 +143,13 @@ module _ (ed : Edition) (c : ℕ) (inside : c < 4) where
       -- the tick, and what is done from there on
       ticked : (zs : List C.Act) → C.run ed c (side_at st c) (y.before ++ (C.Tick st.settings waves ∷ (y.after ++ zs))) ≡ C.run ed c (side_at (act st (Tick waves event)) c) zs
       ticked zs =
-          run_append ed c (side_at st c) y.before (C.Tick st.settings waves ∷ (y.after ++ zs))
-          ∙ ap (λ (x : Side). C.run ed c x (C.Tick st.settings waves ∷ (y.after ++ zs))) (y.comes ed)
-          ∙ run_append ed c (tick_of ed st.settings waves y.mid c (channel_of st.card c)) y.after zs
-          ∙ ap (λ (x : Side). C.run ed c x zs) (ap (λ (i : Edition). C.run ed c (tick_of i st.settings waves y.mid c (channel_of st.card c)) y.after) (sym own) ∙ tick_goes waves st c y ed ∙ ap (λ (x : State). side_at x c) (sym q))
+          cc (
+            run_append ed c (side_at st c) y.before (C.Tick st.settings waves ∷ (y.after ++ zs)),
+            y.comes ed,
+            run_append ed c (tick_of ed st.settings waves y.mid c (channel_of st.card c)) y.after zs,
+            own,
+            tick_goes waves st c y ed,
+          )
 
       passes : (n : ℕ) → (C.run ed c (side_at st c) (C.until (suc n) (y.before ++ (C.Tick st.settings waves ∷ rest)))).channel
           ≡ channel_of (acts st (until (suc n) (Tick waves event ∷ xs))).card c
@@ -164,11 +157,12 @@ module _ (ed : Edition) (c : ℕ) (inside : c < 4) where
           ap (λ (zs : List C.Act). (C.run ed c (side_at st c) zs).channel) (until_untimed 0 y.before (C.Tick st.settings waves ∷ rest) y.none)
           ∙ ap (λ (x : Side). x.channel) (run_append ed c (side_at st c) y.before [] ∙ y.comes ed)
       passes (suc n) =
-          ap (λ (zs : List C.Act). (C.run ed c (side_at st c) zs).channel)
-          (until_untimed (suc n) y.before (C.Tick st.settings waves ∷ rest) y.none
-          ∙ ap (λ (zs : List C.Act). y.before ++ (C.Tick st.settings waves ∷ zs)) (until_untimed n y.after r.doings y.none_after))
-          ∙ ap (λ (x : Side). x.channel) (ticked (C.until (suc n) r.doings))
-          ∙ r.passes n
+          cc (
+            until_untimed (suc n) y.before (C.Tick st.settings waves ∷ rest) y.none,
+            until_untimed n y.after r.doings y.none_after,
+            ticked (C.until (suc n) r.doings),
+            r.passes n,
+          )
 
       held : (s z : List ℕ) → (acts st (Tick waves event ∷ xs)).settings ≡ z → (n : ℕ)
           → C.held_on s z (suc n) (y.before ++ (C.Tick st.settings waves ∷ rest)) ≡ (acts st (until (suc n) (Tick waves event ∷ xs))).settings
@@ -191,14 +185,11 @@ module _ (ed : Edition) (c : ℕ) (inside : c < 4) where
       record {
         doings = p.acts ++ r.doings;
         same_ticks = ticks_append p.acts r.doings ∙ omega (arith, p.none, r.same_ticks);
-        runs = run_append ed c (side_at st c) p.acts r.doings ∙ ap (λ (x : Side). C.run ed c x r.doings) (p.runs ed) ∙ r.runs;
+        runs = cc (run_append ed c (side_at st c) p.acts r.doings, p.runs ed);
         held = λ s z e n. held_untimed s z n p.acts r.doings p.none ∙ r.held s z e n;
         waves = λ z n. waves_untimed z n p.acts r.doings p.none ∙ r.waves z n;
         passes =
-            λ n. ap (λ (zs : List C.Act). (C.run ed c (side_at st c) zs).channel) (until_untimed n p.acts r.doings p.none)
-            ∙ ap (λ (x : Side). x.channel)
-            (run_append ed c (side_at st c) p.acts (C.until (suc n) r.doings) ∙ ap (λ (x : Side). C.run ed c x (C.until (suc n) r.doings)) (p.runs ed))
-            ∙ r.passes n;
+            λ n. cc (until_untimed n p.acts r.doings p.none, run_append ed c (side_at st c) p.acts (C.until (suc n) r.doings), p.runs ed, r.passes n);
         settled = r.settled;
       }
 
@@ -216,40 +207,34 @@ module _ (ed : Edition) (c : ℕ) (inside : c < 4) where
   tracked st (HandIn to ws ∷ xs) own f q =
       let r = tracked st xs own f q.1 in
       record { doings = r.doings; same_ticks = r.same_ticks; runs = r.runs; held = r.held; waves = r.waves; passes = r.passes; settled = r.settled }
-  tracked st (Renew how ∷ xs) own f q = absurd (true≢false q.0.no_reset)
+  tracked st (Renew how ∷ xs) own f q = absurd cc
 
 -- ---- the trigger
 
 pub advanced_room : (waves : List ℕ) (st : State) → length (advanced waves st).tables ≡ length st.tables
 advanced_room waves st =
     let y = tick_turn waves st 0 (omega arith) in
-    ap (λ (x : Side). length x.tables) (sym (tick_goes waves st 0 y st.card.edition))
-    ∙ run_length st.card.edition 0 (tick_of st.card.edition st.settings waves y.mid 0 (channel_of st.card 0)) y.after
-    ∙ run_length st.card.edition 0 (side (channel_of st.card 0) y.mid) (C.Tick st.settings waves ∷ [])
-    ∙ ap (λ (x : Side). length x.tables) (sym (y.comes st.card.edition))
-    ∙ run_length st.card.edition 0 (side_at st 0) y.before
+    cc (
+      tick_goes waves st 0 y st.card.edition,
+      run_length st.card.edition 0 (tick_of st.card.edition st.settings waves y.mid 0 (channel_of st.card 0)) y.after,
+      run_length st.card.edition 0 (side (channel_of st.card 0) y.mid) (C.Tick st.settings waves ∷ []),
+      y.comes st.card.edition,
+      run_length st.card.edition 0 (side_at st 0) y.before,
+    )
 
 -- AN ACT THAT IS A TRIGGER TRIGGERS THE STATE THAT IT COMES TO
-pub trigger_is : (st : State) (x : Act) (level : ℕ) → trigger_by st x ≡ Level level → act st x ≡ trigger_of (just_before st x) level (event_by x)
+pub trigger_is : (st : State) (x : Act) (level : ℕ) → trigger_by st x ≡ Some level → act st x ≡ trigger_of (just_before st x) level (event_by x)
 trigger_is st (Tick waves event) level e = rw (advanced_settings waves st, e)
 trigger_is st (Write start count ws) level e = manual_write st start count ws level e
-trigger_is st (Ask what) level e = let z : ◌≡◌ {A = ℕ} 0 1 = cc in absurd (omega arith)
-trigger_is st (HandIn to ws) level e = let z : ◌≡◌ {A = ℕ} 0 1 = cc in absurd (omega arith)
-trigger_is st (Renew how) level e = let z : ◌≡◌ {A = ℕ} 0 1 = cc in absurd (omega arith)
+trigger_is st _ level e = absurd cc
 
-pub struck_settings : (st : State) (x : Act) (level : ℕ) → trigger_by st x ≡ Level level → (act st x).settings ≡ (just_before st x).settings
-struck_settings st x level e = ap (λ (z : State). z.settings) (trigger_is st x level e) ∙ trigger_settings (just_before st x) level (event_by x)
+pub struck_settings : (st : State) (x : Act) (level : ℕ) → trigger_by st x ≡ Some level → (act st x).settings ≡ (just_before st x).settings
+struck_settings st x level e = cc (trigger_is st x level e, trigger_settings (just_before st x) level (event_by x))
 
 pub before_settings : (st : State) (x : Act) → (just_before st x).settings ≡ st.settings
 before_settings st (Tick waves event) = advanced_settings waves st
-before_settings st (Write start count ws) = refl
-before_settings st (Ask what) = refl
-before_settings st (HandIn to ws) = refl
-before_settings st (Renew how) = refl
+before_settings st _ = refl
 
 pub before_room : (st : State) (x : Act) → length (just_before st x).tables ≡ length st.tables
 before_room st (Tick waves event) = advanced_room waves st
-before_room st (Write start count ws) = refl
-before_room st (Ask what) = refl
-before_room st (HandIn to ws) = refl
-before_room st (Renew how) = refl
+before_room st _ = refl

@@ -1,6 +1,6 @@
 -- The four channels take their turns, each over the tables that the one before left. So for one of them what the others do is done
 -- elsewhere in the tables, before its turn or after it. Assumes nothing.
-use mathlib.Core.Path.{◌≡◌, refl, sym, ap, ◌∙◌}
+use mathlib.Core.Path.{◌≡◌, refl}
 use mathlib.Core.List.{List, [], ◌∷◌}
 use Prim.Native.Nat.{ℕ, zero, suc, ◌<◌}
 use native.Mathlib.Omega.{arith}
@@ -30,7 +30,7 @@ module _ (f : ℕ → List ℕ → Channel → Side)
 
   -- whichever the edition: no act before the turn is a tick
   pub mid_length : (c : ℕ) (y : Turn c) → length y.mid ≡ length l
-  mid_length c y = sym (ap (λ (x : Side). length x.tables) (y.comes First)) ∙ run_length First c (side (channel_of k c) l) y.before
+  mid_length c y = cc (y.comes First, run_length First c (side (channel_of k c) l) y.before)
 
   -- the four turns
   abbrev one : Side

@@ -1,7 +1,7 @@
 -- A channel from a load under settings that pass to the next: it holds the copy, and its ramp stands at one of the samples that the check speaks
 -- of, or it has none to give (`Under`). A tick gives no sum out of range then (`tick_told`, `tick_counted`). Assumes nothing.
-use mathlib.Core.Path.{◌≡◌, refl, sym, ap, ◌∙◌}
-use mathlib.Core.Bool.{Bool, true, false, cond, true≢false}
+use mathlib.Core.Path.{◌≡◌, refl, ap, ◌∙◌}
+use mathlib.Core.Bool.{Bool, true, false, cond}
 use mathlib.Core.Logic.{inl}
 use mathlib.Core.List.{List}
 use Prim.Native.Nat.{ℕ, ◌+◌, ◌*◌, ◌-◌, ◌≤◌, ◌<◌}
@@ -10,6 +10,7 @@ use native.Mathlib.Nat.{le-max_left}
 use lib.Dec.{ltb, eqb}
 use lib.ListN.{length}
 use borrow.Author.Tests.{ne_eqb, eqb-true, eqb-false, ltb-true, ltb-false}
+use Rattle.std.proofs.lemmas.Bool.{and_parts}
 use Rattle.sum.specs.declared.Edition.{Edition}
 use Rattle.map.specs.Addresses.{delay_at, enable_at}
 use Rattle.word.specs.Word.{lasting}
@@ -34,7 +35,6 @@ use Rattle.course.proofs.Copies.{choose}
 use Rattle.course.proofs.Acts.{untimed_table, untimed_ramp}
 use Rattle.course.proofs.Tables.{same_enter, same_next, same_sample}
 use Rattle.course.proofs.Walk.{placed, place_first, place_step, place_more, place_last}
-use Rattle.course.proofs.Signals.{and_first}
 use Rattle.course.proofs.Moves.{tick_load}
 use Rattle.course.proofs.Course.{Held, loads}
 use Rattle.profile.specs.Laws.{InRange}
@@ -52,9 +52,9 @@ counts_load ed z w l c ch = go ch.phase refl
   where
     go : (p : Phase) → ch.phase ≡ p → loads_at (to_start p - 1) ≡ true → tick_of ed z w l c ch ≡ load z l c ch ch.level
     go (Counting n older) e q = let d = eqb-true (n.0 - 1) lead q in tick_load ed z l c ch w n.0 older e (omega arith)
-    go Rest e q = absurd (true≢false (sym q))
-    go (Running r) e q = absurd (true≢false (sym q))
-    go (FreeRunning r) e q = absurd (true≢false (sym q))
+    go Rest e q = absurd cc
+    go (Running r) e q = absurd cc
+    go (FreeRunning r) e q = absurd cc
 
 -- what is told of it is no sample
 load_told : (ed : Edition) (w z l : List ℕ) (c : ℕ) (ch : Channel) → loads_at (to_start ch.phase - 1) ≡ true → out_before_load (by_tick ed w z l c ch) ≡ false
@@ -100,9 +100,9 @@ module _ (s : List ℕ) (c v : ℕ) where
   -- phase, copy and words decide
   kept_under : (x y : Side) → y.channel.phase ≡ x.channel.phase → y.channel.loaded ≡ x.channel.loaded
       → SameTable y.tables (first_of c) x.tables (first_of c) → Under x → Under y
-  kept_under x y e f g (holding h o) = holding (record { loaded = f ∙ h.loaded; table = λ i k. g i k ∙ h.table i k }) (rw e o)
-  kept_under x y e f g (resting d) = resting (e ∙ d)
-  kept_under x y e f g (waiting n d l) = waiting n (e ∙ d) l
+  kept_under x y e f g (holding h o) = holding (record { loaded = cc; table = λ i k. g i k ∙ h.table i k }) (rw e o)
+  kept_under x y e f g (resting d) = resting cc
+  kept_under x y e f g (waiting n d l) = waiting n (cc) l
 
   pub untimed_under : (ed : Edition) (x : Side) (ys : List C.Act) → C.ticks_in ys ≡ 0 → 128 * c + 128 ≤ length x.tables → Under x → Under (C.run ed c x ys)
   untimed_under ed x ys e h u = let r = untimed_ramp ed c x ys e in kept_under x (C.run ed c x ys) r.0 r.1 (untimed_table ed c x ys e h) u
@@ -116,7 +116,7 @@ module _ (s : List ℕ) (c v : ℕ) where
       far = not_load z c level l
 
       waits : ramp_of x.channel.phase ≡ Still → Under (side (counting x.channel level (countdown z c level)) x.tables)
-      waits e = waiting (record { 0 = countdown z c level }) (ap (λ (r : Ramp). Counting (record { 0 = countdown z c level }) r) e) far
+      waits e = waiting (record { 0 = countdown z c level }) (cc) far
 
       go : Under x → Under (side (counting x.channel level (countdown z c level)) x.tables)
       go (holding h o) = holding (record { loaded = h.loaded; table = h.table }) o
@@ -175,10 +175,10 @@ module _ (s : List ℕ) (c v : ℕ) where
     ramp_steps_lem x h (Going r) o =
         choose (Steps x.channel.loaded) (ltb 1 r.wait.0) _ _ (record { ours = o; gave = tt })
         (sample_steps x h false r.period.0 (o.number + 1) (omega (arith, o.before)) _
-        (ap (λ (p : Place). next x.tables (first_of c) p) o.here ∙ next_spot x h o.number o.before))
+        (cc (next_spot x h o.number o.before)))
     ramp_steps_lem x h (Free r) o =
         choose (Steps x.channel.loaded) (ltb 1 r.wait.0) _ _ (record { ours = o; gave = tt })
-        (record { ours = o; gave = rw h.loaded (and_first (sine_for s c v) _ o) })
+        (record { ours = o; gave = rw h.loaded (and_parts (sine_for s c v) _ o).0 })
 
     -- ---- a tick's first pass
 
@@ -224,10 +224,10 @@ module _ (s : List ℕ) (c v : ℕ) where
     move_safe z x (holding h o) (Running r) e l = step_safe x h phase_of ramp_phase _ (ramp_steps_lem x h (Going r) (rw e at o))
     move_safe z x (holding h o) (FreeRunning r) e l = step_safe x h phase_of ramp_phase _ (ramp_steps_lem x h (Free r) (rw e at o))
     move_safe z x (resting d) p e l =
-        let f : p ≡ Rest = sym e ∙ d in
+        let f : p ≡ Rest = cc in
         rw f (record { under = resting d; gave = tt; loaded = refl; signal = refl })
     move_safe z x (waiting n d g) p e l =
-        let f : p ≡ Counting n Still = sym e ∙ d in
+        let f : p ≡ Counting n Still = cc in
         let k : loads_at (n.0 - 1) ≡ false = rw f at l in
         let q = eqb-false (n.0 - 1) lead k in
         rw (f, ne_eqb (n.0 - 1) 0 (λ b. absurd (omega arith)), k)

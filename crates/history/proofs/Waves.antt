@@ -1,7 +1,8 @@
 -- The wave tables: the answer to one goes by its two tests, and what a copy and a fill leave at each place goes through a history act by act,
 -- together with the channel's last table (`Shows`), whose words are in range by the first test. Assumes nothing.
+use Rattle.std.specs.Prelude.{Ok, Err}
 use mathlib.Core.Path.{◌≡◌, refl, sym, ap, ◌∙◌}
-use mathlib.Core.Bool.{Bool, true, false, not, ◌||◌, cond, true≢false}
+use mathlib.Core.Bool.{Bool, true, false, not, ◌||◌, cond}
 use mathlib.Core.List.{List, [], ◌∷◌}
 use Prim.Native.Nat.{ℕ, zero, suc, ◌+◌, ◌≤◌, ◌<◌}
 use native.Mathlib.Omega.{arith}
@@ -23,10 +24,10 @@ use Rattle.course.proofs.Copies.{copied_length, copied_in, copied_out}
 use Rattle.card.specs.declared.Card.{Card}
 use Rattle.card.specs.Card.{State, channel_of}
 use Rattle.card.specs.Reset.{waves_reset, fresh_of}
-use Rattle.wavetable.specs.declared.Reply.TheVariants.{Taken, Bad, Running}
 use Rattle.wavetable.specs.Hand.{Handed, handed, in_wave, all_in_wave, bad_table, hand_of}
 use Rattle.history.specs.History.{Act, Tick, Write, Ask, HandIn, Renew, act, is_reset, ticks_in, until, waves_on}
 use Rattle.history.specs.Waves.{GoodTable, HandedIn, WaveTables, waves_after, waves_in, LentAsLeft, taken_for, table_by, last_table, RunsThrough, WavesRight}
+use Rattle.wavetable.specs.declared.Refusal.TheVariants.{Bad, Running}
 
 -- ---- the words of a table
 
@@ -59,10 +60,8 @@ all_only (v ∷ vs) h = and_i (in_wave v) (all_in_wave vs) (in_wave_only v (h 0 
 -- ---- a table that is not bad
 
 none : (a b d : Bool) → a || (not b || not d) ≡ false → (a ≡ false) × (b ≡ true) × T d
-none true b d e = absurd (true≢false e)
 none false true true e = (refl, refl, tt)
-none false true false e = absurd (true≢false e)
-none false false d e = absurd (true≢false e)
+none _ b d e = absurd cc
 
 all_three : (a b d : Bool) → a ≡ false → b ≡ true → T d → a || (not b || not d) ≡ false
 all_three true b d e f t = e
@@ -93,28 +92,21 @@ copied_word n s l to i h g = copied_in n s 0 l to i h g ∙ ap (λ j. get_or s j
 
 module _ (k : Card) (w : List ℕ) (c : ℕ) (ws : List ℕ) where
   -- by the two tests
-  hand_ind : (P : Handed → Type 0) → (bad_table c ws ≡ true → P (handed w Bad)) → (bad_table c ws ≡ false → runs_of (channel_of k c) ≡ true → P (handed w Running))
-      → (bad_table c ws ≡ false → runs_of (channel_of k c) ≡ false → P (handed (copied entries ws 0 w (wave_of c)) Taken)) → P (hand_of k w c ws)
+  hand_ind : (P : Handed → Type 0) → (bad_table c ws ≡ true → P (handed w (Err Bad))) → (bad_table c ws ≡ false → runs_of (channel_of k c) ≡ true → P (handed w (Err Running)))
+      → (bad_table c ws ≡ false → runs_of (channel_of k c) ≡ false → P (handed (copied entries ws 0 w (wave_of c)) (Ok tt))) → P (hand_of k w c ws)
   unfolding hand_of
-  hand_ind P f g h = go (bad_table c ws) (runs_of (channel_of k c)) f g h
-    where
-      go : (b r : Bool) → (b ≡ true → P (handed w Bad)) → (b ≡ false → r ≡ true → P (handed w Running))
-          → (b ≡ false → r ≡ false → P (handed (copied entries ws 0 w (wave_of c)) Taken))
-          → P (cond b (handed w Bad) (cond r (handed w Running) (handed (copied entries ws 0 w (wave_of c)) Taken)))
-      go true r f g h = f refl
-      go false true f g h = g refl refl
-      go false false f g h = h refl refl
+  hand_ind P f g h = grind arith
 
   answered : HandedIn k w c ws (hand_of k w c ws)
   answered = hand_ind (HandedIn k w c ws) bad running taken
     where
-      bad : bad_table c ws ≡ true → HandedIn k w c ws (handed w Bad)
+      bad : bad_table c ws ≡ true → HandedIn k w c ws (handed w (Err Bad))
       bad e = record { number = rw e; refused = λ n. refl; taken = λ z. absurd (omega arith); others = λ i o. refl; many = refl }
 
-      running : bad_table c ws ≡ false → runs_of (channel_of k c) ≡ true → HandedIn k w c ws (handed w Running)
+      running : bad_table c ws ≡ false → runs_of (channel_of k c) ≡ true → HandedIn k w c ws (handed w (Err Running))
       running e r = record { number = rw (e, r); refused = λ n. refl; taken = λ z. absurd (omega arith); others = λ i o. refl; many = refl }
 
-      taken : bad_table c ws ≡ false → runs_of (channel_of k c) ≡ false → HandedIn k w c ws (handed (copied entries ws 0 w (wave_of c)) Taken)
+      taken : bad_table c ws ≡ false → runs_of (channel_of k c) ≡ false → HandedIn k w c ws (handed (copied entries ws 0 w (wave_of c)) (Ok tt))
       taken e r =
           record {
             number = rw (e, r);
@@ -169,11 +161,9 @@ hand_shows c b k w to ws t s = hand_ind k w to ws (λ o. Shows c o.waves (taken_
         }
 
 shows_after : (c : ℕ) → c < 4 → (st : State) (w : List ℕ) (x : Act) (t : List ℕ) → Shows c w t → Shows c (waves_after st w x) (table_by c st w x t)
-shows_after c b st w (Tick waves event) t s = s
-shows_after c b st w (Write start count ws) t s = s
-shows_after c b st w (Ask what) t s = s
 shows_after c b st w (HandIn to ws) t s = hand_shows c b st.card w to ws t s
 shows_after c b st w (Renew how) t s = reset_shows c b w s.long
+shows_after c b st w _ t s = s
 
 shows_in : (c : ℕ) → c < 4 → (st : State) (w : List ℕ) (xs : List Act) (t : List ℕ) → Shows c w t → Shows c (waves_in st w xs) (last_table c st w xs t)
 shows_in c b st w [] t s = s
@@ -187,11 +177,9 @@ hand_inside c k w to ws t p = hand_ind k w to ws (λ o. Inside (taken_for c to w
     go false g = p
 
 inside_after : (c : ℕ) (st : State) (w : List ℕ) (x : Act) (t : List ℕ) → Inside t → Inside (table_by c st w x t)
-inside_after c st w (Tick waves event) t p = p
-inside_after c st w (Write start count ws) t p = p
-inside_after c st w (Ask what) t p = p
 inside_after c st w (HandIn to ws) t p = hand_inside c st.card w to ws t p
 inside_after c st w (Renew how) t p = zeros_inside
+inside_after c st w _ t p = p
 
 inside_in : (c : ℕ) (st : State) (w : List ℕ) (xs : List Act) (t : List ℕ) → Inside t → Inside (last_table c st w xs t)
 inside_in c st w [] t p = p
@@ -204,16 +192,14 @@ hand_kept k w to ws c g i h = hand_ind k w to ws (λ o. get_or o.waves (wave_of 
   where
     taken : bad_table to ws ≡ false → runs_of (channel_of k to) ≡ false → get_or (copied entries ws 0 w (wave_of to)) (wave_of c + i) 0 ≡ get_or w (wave_of c + i) 0
     taken e r =
-        let other : c ≡ to → ⊥ = λ q. true≢false (sym g ∙ ap (λ n. runs_of (channel_of k n)) q ∙ r) in
+        let other : c ≡ to → ⊥ = λ q. cc in
         copied_out entries ws 0 w (wave_of to) (wave_of c + i) (apart c to i other h)
 
 kept : (st : State) (w : List ℕ) (x : Act) → is_reset x ≡ false → (c : ℕ) → c < 4 → runs_of (channel_of st.card c) ≡ true
     → (i : ℕ) → i < entries → get_or (waves_after st w x) (wave_of c + i) 0 ≡ get_or w (wave_of c + i) 0
-kept st w (Tick waves event) e c b g i h = refl
-kept st w (Write start count ws) e c b g i h = refl
-kept st w (Ask what) e c b g i h = refl
 kept st w (HandIn to ws) e c b g i h = hand_kept st.card w to ws c g i h
-kept st w (Renew how) e c b g i h = absurd (true≢false e)
+kept st w (Renew how) e c b g i h = absurd cc
+kept st w _ e c b g i h = refl
 
 whole : (st : State) (w : List ℕ) (xs : List Act) (c : ℕ) → c < 4 → RunsThrough c st xs → (i : ℕ) → i < entries
     → get_or (waves_in st w xs) (wave_of c + i) 0 ≡ get_or w (wave_of c + i) 0

@@ -1,15 +1,16 @@
 -- The settings keep their rules: a word stored where it was judged, an erase, and a reset. Each rule is looked at word by word: a store,
 -- a fill or a reset leaves at each address the new word or the old one. Assumes nothing.
-use mathlib.Core.Path.{◌≡◌, refl, sym, ap, ◌∙◌, subst}
-use mathlib.Core.Bool.{Bool, true, false, not, ◌&&◌, cond, true≢false}
+use Rattle.std.specs.Prelude.{None, Ok, Err}
+use mathlib.Core.Path.{◌≡◌, refl, ◌∙◌}
+use mathlib.Core.Bool.{Bool, true, false, not, cond}
 use mathlib.Core.List.{List}
-use mathlib.Core.Logic.{◌⊎◌, inl, inr}
+use mathlib.Core.Logic.{◌⊎◌}
 use Prim.Native.Nat.{ℕ, zero, suc, ◌+◌, ◌-◌, ◌/◌, ◌≤◌, ◌<◌}
 use native.Mathlib.Omega.{arith}
-use lib.Dec.{leb, ltb, eqb}
+use lib.Dec.{leb, ltb}
 use lib.ListN.{length, set, length-set, get_or-eq_default}
 use lib.Seq.{get_or-set_same, get_or-set_other, set_out}
-use borrow.Author.Tests.{ltb-true, ltb-false, leb-true, leb-false, eqb-true, eqb-false}
+use borrow.Author.Tests.{ltb-true, ltb-false, leb-true, leb-false}
 use Rattle.map.specs.declared.Setting.{Setting}
 use Rattle.map.specs.declared.Setting.TheVariants as S
 use Rattle.map.specs.declared.Register.{Register}
@@ -19,8 +20,6 @@ use Rattle.map.specs.Register.{allowed, allowed_setting}
 use Rattle.map.specs.Settings.{is_fixed}
 use Rattle.map.specs.Addresses.{table_at, scale_at, offset_at}
 use Rattle.map.proofs.Values.{accepted_is}
-use Rattle.slots.specs.declared.Holder.{Holder}
-use Rattle.slots.specs.declared.Holder.TheVariants.{Level, Nobody}
 use Rattle.slots.specs.Slots.{other_of, filled, erased, OneLevel}
 use Rattle.slots.proofs.Fills.{filled_length, filled_in, filled_out, erased_length}
 use Rattle.slots.proofs.Holders.{one_level_off, one_level_stored, one_level_erased}
@@ -28,8 +27,7 @@ use Rattle.channel.specs.Channel.{word}
 use Rattle.card.specs.declared.Card.{Card}
 use Rattle.card.specs.Reset.{scales_reset, settings_reset}
 use Rattle.transfer.specs.declared.Why.TheVariants.{Fixed, Value, Held, Running}
-use Rattle.transfer.specs.declared.Verdict.TheVariants.{Accepted, Refused}
-use Rattle.transfer.specs.Word.{is_level, held_at, running_at, judge_of}
+use Rattle.transfer.specs.Word.{held_at, running_at, judge_of}
 use Rattle.history.specs.Sound.{Words}
 use Rattle.history.proofs.Addresses.{slot_register}
 use Rattle.history.proofs.Registers.{Kept, plain, fixed, slot, kept}
@@ -43,31 +41,23 @@ pub record Passed (s : List ℕ) (k : Card) (r : Register) (v : ℕ) : Type 0 wh
   pub alone : held_at s r v ≡ false
   pub still : running_at k r ≡ false
 
-pub passed : (s : List ℕ) (k : Card) (r : Register) (v : ℕ) → judge_of s k r v ≡ Accepted → Passed s k r v
+pub passed : (s : List ℕ) (k : Card) (r : Register) (v : ℕ) → judge_of s k r v ≡ Ok tt → Passed s k r v
 unfolding judge_of
 passed s k r v e = go (is_fixed r) refl (allowed r v) refl (held_at s r v) refl (running_at k r) refl e
   where
     go : (a : Bool) → is_fixed r ≡ a → (b : Bool) → allowed r v ≡ b → (c : Bool) → held_at s r v ≡ c → (d : Bool) → running_at k r ≡ d
-        → cond a (Refused Fixed) (cond (not b) (Refused Value) (cond c (Refused Held) (cond d (Refused Running) Accepted))) ≡ Accepted → Passed s k r v
+        → cond a (Err Fixed) (cond (not b) (Err Value) (cond c (Err Held) (cond d (Err Running) (Ok (tt {0}))))) ≡ Ok tt → Passed s k r v
     go false p true q false i false j e = record { free = p; value = q; alone = i; still = j }
-    go true p b q c i d j e = let z : ◌≡◌ {A = ℕ} 0 1 = cc in absurd (omega arith)
-    go false p false q c i d j e = let z : ◌≡◌ {A = ℕ} 0 1 = cc in absurd (omega arith)
-    go false p true q true i d j e = let z : ◌≡◌ {A = ℕ} 0 1 = cc in absurd (omega arith)
-    go false p true q false i true j e = let z : ◌≡◌ {A = ℕ} 0 1 = cc in absurd (omega arith)
+    go true p b q c i d j e = absurd cc
+    go false p false q c i d j e = absurd cc
+    go false p true q true i d j e = absurd cc
+    go false p true q false i true j e = absurd cc
 
 -- ---- a word of the list after a store, a fill, a reset
 
 -- the new word at the address, or the old one
 pub set_word : (P : ℕ → Type 0) (s : List ℕ) (a v b : ℕ) → (b ≡ a → P v) → P (word s b) → P (word (set s a v) b)
-set_word P s a v b p q = go (eqb b a) refl (leb (length s) a) refl
-  where
-    go : (x : Bool) → eqb b a ≡ x → (y : Bool) → leb (length s) a ≡ y → P (word (set s a v) b)
-    go true e true f = rw (set_out s a v (leb-true (length s) a f)) q
-    go true e false f =
-        let d = eqb-true b a e in
-        let g = leb-false (length s) a f in
-        subst P (sym (ap (λ (i : ℕ). word (set s a v) i) d ∙ get_or-set_same s a v 0 g)) (p d)
-    go false e y f = rw (get_or-set_other s a b v 0 (eqb-false b a e)) q
+set_word P s a v b p q = grind (arith, set_out, get_or-set_same, get_or-set_other)
 
 -- the word of the fill in its places, and the old one elsewhere
 pub fill_word : (P : ℕ → Type 0) (n : ℕ) (s : List ℕ) (first w at : ℕ) → (first ≤ at → at < first + n → P w)
@@ -119,11 +109,7 @@ reset_word_lem P s at l p q r =
     s4 = scales_reset 3 s3
 
     past : (0 ≤ at → at < 0 + 16960 → at < length s → ⊥) → length s ≤ at
-    past o = go (ltb at (length s)) refl
-      where
-        go : (b : Bool) → ltb at (length s) ≡ b → length s ≤ at
-        go true e = let f = ltb-true at (length s) e in absurd (o (omega arith) (omega arith) f)
-        go false e = ltb-false at (length s) e
+    past o = grind arith
 
     l0 : length s0 ≡ 16960
     l0 = filled_length 16960 s 0 0 ∙ l
@@ -153,9 +139,6 @@ reset_word_lem P s at l p q r =
     none_of h0 h1 h2 h3 (suc (suc (suc (suc c)))) i j = absurd (omega arith)
 
 -- ---- the registers that a store, an erase and a reset meet
-
-clash : (r : Register) → is_fixed r ≡ true → is_fixed r ≡ false → ⊥
-clash r p q = true≢false (sym p ∙ q)
 
 -- no slot is fixed
 slot_free : (a : ℕ) → 0x4000 ≤ a → a < 0x4100 → is_fixed (register_of a) ≡ false
@@ -188,13 +171,8 @@ zero_allowed r (fixed s e) = rw e (zero_setting s)
 zero_allowed r (slot l e) = rw e
 
 -- an event that is held by no other level, or null
-free_event : (s : List ℕ) (l v : ℕ) → held_at s (R.Slot l) v ≡ false → (v ≡ 0xFE) ⊎ (other_of s v l ≡ Nobody)
-free_event s l v = go (eqb v 0xFE) refl (other_of s v l) refl
-  where
-    go : (b : Bool) → eqb v 0xFE ≡ b → (h : Holder) → other_of s v l ≡ h → not b && is_level h ≡ false → (v ≡ 0xFE) ⊎ (other_of s v l ≡ Nobody)
-    go true e h f g = inl (eqb-true v 0xFE e)
-    go false e (Level m) f g = absurd (true≢false g)
-    go false e Nobody f g = inr f
+free_event : (s : List ℕ) (l v : ℕ) → held_at s (R.Slot l) v ≡ false → (v ≡ 0xFE) ⊎ (other_of s v l ≡ None)
+free_event s l v = grind arith
 
 -- ---- a store, an erase, a reset
 
@@ -213,13 +191,13 @@ module _ (s : List ℕ) (w : Words s) where
           let d : 0x4000 + (a - 0x4000) ≡ a = omega arith in
           let h : held_at s (R.Slot ((a - 0x4000) / 8)) v ≡ false = rw (slot_register a i j) at p.alone in
           let l : 0x4100 ≤ length s = omega (arith, w.many) in
-          subst (λ (z : ℕ). OneLevel (set s z v)) d (one_level_stored s (a - 0x4000) v l (omega arith) w.one (free_event s ((a - 0x4000) / 8) v h))
+          rw (← d) (one_level_stored s (a - 0x4000) v l (omega arith) w.one (free_event s ((a - 0x4000) / 8) v h))
       go false e y f = off (λ i j. absurd (omega (arith, leb-false 0x4000 a e)))
       go true e false f = off (λ i j. absurd (omega (arith, ltb-false a 0x4100 f)))
 
   -- a fixed word is not stored to
   fixed_kept : (k : Card) (a v b z : ℕ) → Passed s k (register_of a) v → is_fixed (register_of b) ≡ true → word s b ≡ z → word (set s a v) b ≡ z
-  fixed_kept k a v b z p f e = set_word (λ y. y ≡ z) s a v b (λ d. absurd (clash (register_of b) f (rw d p.free))) e
+  fixed_kept k a v b z p f e = set_word (λ y. y ≡ z) s a v b (λ d. absurd cc) e
 
   pub stored : (k : Card) (a v : ℕ) → v < 65536 → Passed s k (register_of a) v → Words (set s a v)
   stored k a v h p =
@@ -234,7 +212,7 @@ module _ (s : List ℕ) (w : Words s) where
       }
 
   fixed_erased : (b z : ℕ) → is_fixed (register_of b) ≡ true → word s b ≡ z → word (erased s) b ≡ z
-  fixed_erased b z f e = fill_word (λ y. y ≡ z) 256 s 0x4000 0xFE b (λ i j. absurd (clash (register_of b) f (slot_free b i j))) (λ o. e)
+  fixed_erased b z f e = fill_word (λ y. y ≡ z) 256 s 0x4000 0xFE b (λ i j. absurd (cc (slot_free b i j))) (λ o. e)
 
   pub erased_words : Words (erased s)
   erased_words =

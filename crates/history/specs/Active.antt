@@ -1,10 +1,8 @@
 -- Demand 2 of 0x4210 and 0x4211, as document 02, One, has them: they 'shall change at the first load that follows a trigger, on whichever
 -- channel that comes first, to that trigger's level and event'.
-use Rattle.std.specs.Prelude.{◌≡◌, Bool, true, false, ◌||◌, cond, List, [], ◌∷◌, ℕ, ◌-◌, ◌<◌, min, leb}
+use Rattle.std.specs.Prelude.{◌≡◌, Bool, true, false, ◌||◌, cond, List, [], ◌∷◌, ℕ, ◌-◌, ◌<◌, min, leb, Option, Some, None}
 use Rattle.sum.specs.declared.Edition.{Edition}
 use Rattle.map.specs.Addresses.{delay_at}
-use Rattle.slots.specs.declared.Holder.{Holder}
-use Rattle.slots.specs.declared.Holder.TheVariants.{Level, Nobody}
 use Rattle.channel.specs.Channel.{word, lead, loaded_for}
 use Rattle.card.specs.declared.Cause.{Cause}
 use Rattle.card.specs.Card.{State, on_some}
@@ -68,13 +66,13 @@ at_reset = cause 0 0xFE
 
 -- what an act leaves of `old`: a trigger takes its place if some channel has loaded since, a reset always. A load after a later trigger
 -- counts too: that trigger then takes the place in its turn
-abbrev pub active_after : Holder → Act → Bool → Cause → Cause
-active_after (Level l) x loaded old = cond loaded (cause l (event_by x)) old
-active_after Nobody (Tick waves event) loaded old = old
-active_after Nobody (Write start count ws) loaded old = old
-active_after Nobody (Ask what) loaded old = old
-active_after Nobody (HandIn to ws) loaded old = old
-active_after Nobody (Renew how) loaded old = at_reset
+abbrev pub active_after : Option ℕ → Act → Bool → Cause → Cause
+active_after (Some l) x loaded old = cond loaded (cause l (event_by x)) old
+active_after None (Tick waves event) loaded old = old
+active_after None (Write start count ws) loaded old = old
+active_after None (Ask what) loaded old = old
+active_after None (HandIn to ws) loaded old = old
+active_after None (Renew how) loaded old = at_reset
 
 -- the last accepted trigger after which some channel has loaded; `old` where there is none
 abbrev pub last_loaded : State → List Act → Cause → Cause
@@ -89,7 +87,7 @@ ActiveRight = (edition : Edition) (s l : List ℕ) (xs : List Act) → active_in
 
 -- In any state st the act x is an accepted trigger of a level; after it come the acts xs, no trigger accepted and no reset among them.
 abbrev pub LastTrigger : State → Act → ℕ → List Act → Type 0
-LastTrigger st x level xs = (trigger_by st x ≡ Level level) × Quiet (act st x) xs
+LastTrigger st x level xs = (trigger_by st x ≡ Some level) × Quiet (act st x) xs
 
 -- 'A trigger replaced before any channel loads never shows there.'
 pub record NeverShows : Type 0 where
@@ -99,7 +97,7 @@ pub record NeverShows : Type 0 where
   -- a trigger y then takes its place, and no channel loads before y; whatever acts ys come, they show the last trigger from y on after which
   -- some channel has loaded, and where there is none what was shown before x
   pub afterwards : (st : State) (x : Act) (level : ℕ) (xs : List Act) → LastTrigger st x level xs → loads_after st x xs ≡ false
-      → (y : Act) (l : ℕ) → trigger_by (acts (act st x) xs) y ≡ Level l → loads_before (acts (act st x) xs) y ≡ false → (ys : List Act)
+      → (y : Act) (l : ℕ) → trigger_by (acts (act st x) xs) y ≡ Some l → loads_before (acts (act st x) xs) y ≡ false → (ys : List Act)
       → active_in (acts (acts (act st x) xs) (y ∷ ys)) ≡ last_loaded (acts (act st x) xs) (y ∷ ys) (active_in (just_before st x))
 
 -- the shortest of the four channels' delays for a level

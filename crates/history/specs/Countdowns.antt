@@ -1,7 +1,6 @@
 -- What a trigger sets on each channel, and what it leaves until the load: 'counting (toward a load or a start, perhaps with an older ramp
 -- still running)'.
-use Rattle.std.specs.Prelude.{◌≡◌, List, ℕ, ◌<◌}
-use Rattle.slots.specs.declared.Holder.TheVariants.{Level, Nobody}
+use Rattle.std.specs.Prelude.{◌≡◌, List, ℕ, ◌<◌, Some, None}
 use Rattle.channel.specs.declared.Moved.{Moved}
 use Rattle.channel.specs.declared.Way.{Way}
 use Rattle.channel.specs.declared.Phase.TheVariants.{Running, FreeRunning}
@@ -27,7 +26,7 @@ just_before st (Renew how) = st
 -- 'On each channel, enabled or not, the countdown is set anew to that channel's delay for L, at least 10.'
 unfoldable pub CountdownsSet : Type 0
 CountdownsSet =
-    (st : State) (x : Act) (level : ℕ) → trigger_by st x ≡ Level level → (c : ℕ) → c < 4
+    (st : State) (x : Act) (level : ℕ) → trigger_by st x ≡ Some level → (c : ℕ) → c < 4
     → to_start (channel_of (act st x).card c).phase ≡ countdown (act st x).settings c level
 
 -- ---- the older ramp, and the older free run
@@ -54,16 +53,16 @@ pub record GoesOn (w : List ℕ) (c : ℕ) (x y : State) : Type 0 where
 -- until the load an older ramp goes on as if no trigger had come
 pub record OlderGoesOn : Type 0 where
   -- a trigger that does not load at once leaves the ramp, its copy, its value and the signal
-  pub trigger : (st : State) → Sound st → (x : Act) (level : ℕ) → trigger_by st x ≡ Level level → (c : ℕ) → c < 4
+  pub trigger : (st : State) → Sound st → (x : Act) (level : ℕ) → trigger_by st x ≡ Some level → (c : ℕ) → c < 4
       → lead < countdown (act st x).settings c level → RampKept c (just_before st x) (act st x)
-  pub shown : (st : State) (x : Act) (level : ℕ) → trigger_by st x ≡ Level level → (c : ℕ) → c < 4 → lead < countdown (act st x).settings c level
+  pub shown : (st : State) (x : Act) (level : ℕ) → trigger_by st x ≡ Some level → (c : ℕ) → c < 4 → lead < countdown (act st x).settings c level
       → (channel_of (act st x).card c).shown ≡ (channel_of (just_before st x).card c).shown
-  pub signal : (st : State) (x : Act) (level : ℕ) → trigger_by st x ≡ Level level → (c : ℕ) → c < 4 → lead < countdown (act st x).settings c level
+  pub signal : (st : State) (x : Act) (level : ℕ) → trigger_by st x ≡ Some level → (c : ℕ) → c < 4 → lead < countdown (act st x).settings c level
       → (channel_of (act st x).card c).signal ≡ (channel_of (just_before st x).card c).signal
   -- a tick moves it on while the load is to come on a later tick, as it moves a ramp with no countdown beside it
   pub counting : (w : List ℕ) (st : State) → Sound st → (c : ℕ) → c < 4 → 11 < to_start (channel_of st.card c).phase → GoesOn w c st (advanced w st)
   pub running : (w : List ℕ) (st : State) → Sound st → (c : ℕ) → c < 4 → (r : Way) → (channel_of st.card c).phase ≡ Running r → GoesOn w c st (advanced w st)
   pub free : (w : List ℕ) (st : State) → Sound st → (c : ℕ) → c < 4 → (r : Way) → (channel_of st.card c).phase ≡ FreeRunning r → GoesOn w c st (advanced w st)
   -- a write that is no trigger leaves the ramp and its copy
-  pub write : (st : State) → Sound st → (start count : ℕ) (ws : List ℕ) → trigger_by st (Write start count ws) ≡ Nobody → (c : ℕ) → c < 4
+  pub write : (st : State) → Sound st → (start count : ℕ) (ws : List ℕ) → trigger_by st (Write start count ws) ≡ None → (c : ℕ) → c < 4
       → RampKept c st (act st (Write start count ws))

@@ -1,8 +1,6 @@
 -- Demand 2 of the level counts: 'triggers since the last clearing, modulo 65,536'.
-use Rattle.std.specs.Prelude.{◌≡◌, Bool, true, false, ◌||◌, cond, List, [], ◌∷◌, ℕ, ◌+◌, ◌%◌, ◌<◌, eqb}
+use Rattle.std.specs.Prelude.{◌≡◌, Bool, true, false, ◌||◌, cond, List, [], ◌∷◌, ℕ, ◌+◌, ◌%◌, ◌<◌, eqb, Option, Some, None}
 use Rattle.sum.specs.declared.Edition.{Edition}
-use Rattle.slots.specs.declared.Holder.{Holder}
-use Rattle.slots.specs.declared.Holder.TheVariants.{Level, Nobody}
 use Rattle.card.specs.Card.{State}
 use Rattle.card.specs.Reset.{fresh_of}
 use Rattle.history.specs.History.{Act, Tick, Write, Ask, HandIn, Renew, act, acts, read_back, words_done, trigger_by}
@@ -21,9 +19,9 @@ clears st level (HandIn to ws) = false
 clears st level (Renew how) = true
 
 -- n triggers of a level before an act, which is a trigger, or clears the count, or neither
-abbrev pub tally : Holder → Bool → ℕ → ℕ → ℕ
-tally (Level l) cleared level n = cond (eqb level l) (n + 1) n
-tally Nobody cleared level n = cond cleared 0 n
+abbrev pub tally : Option ℕ → Bool → ℕ → ℕ → ℕ
+tally (Some l) cleared level n = cond (eqb level l) (n + 1) n
+tally None cleared level n = cond cleared 0 n
 
 -- the accepted triggers of a level since its last clearing or reset, with n before the acts
 abbrev pub triggers_since : ℕ → State → List Act → ℕ → ℕ

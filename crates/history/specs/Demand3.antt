@@ -1,7 +1,6 @@
 -- Demand 3 of the card.
-use Rattle.std.specs.Prelude.{◌≡◌, List, ℕ, ◌+◌, ◌*◌, ◌-◌, ◌≤◌, ◌<◌, length}
+use Rattle.std.specs.Prelude.{◌≡◌, List, ℕ, ◌+◌, ◌*◌, ◌-◌, ◌≤◌, ◌<◌, length, Some, None}
 use Rattle.map.specs.Addresses.{enable_at}
-use Rattle.slots.specs.declared.Holder.TheVariants.{Level, Nobody}
 use Rattle.channel.specs.declared.Channel.{Channel}
 use Rattle.channel.specs.Channel.{Side, side, word, countdown}
 use Rattle.card.specs.Card.{State, channel_of}
@@ -20,8 +19,8 @@ side_at st c = side (channel_of st.card c) st.tables
 unfoldable pub Demand3 : Type 0
 Demand3 =
     (st : State) → 512 ≤ length st.tables
-    → (x : Act) (level : ℕ) → trigger_by st x ≡ Level level
-    → (xs : List Act) (waves : List ℕ) (event : ℕ) → Quiet (act st x) xs → trigger_by (acts (act st x) xs) (Tick waves event) ≡ Nobody
+    → (x : Act) (level : ℕ) → trigger_by st x ≡ Some level
+    → (xs : List Act) (waves : List ℕ) (event : ℕ) → Quiet (act st x) xs → trigger_by (acts (act st x) xs) (Tick waves event) ≡ None
     → (c : ℕ) → c < 4
     → let k : State = act st x in
     let d : ℕ = countdown k.settings c level in

@@ -1,7 +1,5 @@
 -- All that an accepted word does, by its address.
-use Rattle.std.specs.Prelude.{◌≡◌, Bool, true, false, not, ◌&&◌, ℕ, ◌+◌, ◌≤◌, ◌<◌, set}
-use Rattle.map.specs.declared.Found.{Found}
-use Rattle.map.specs.declared.Found.TheVariants.{At, Nothing}
+use Rattle.std.specs.Prelude.{◌≡◌, Bool, true, false, not, ◌&&◌, ℕ, ◌+◌, ◌≤◌, ◌<◌, set, Option, Some, None}
 use Rattle.map.specs.declared.Register.{Register}
 use Rattle.map.specs.declared.Register.TheVariants as R
 use Rattle.map.specs.Map.{base, region_of, register_of}
@@ -13,11 +11,12 @@ use Rattle.card.specs.Trigger.{trigger_of}
 use Rattle.transfer.specs.Transfer.{writable, readable}
 use Rattle.transfer.specs.Word.{effect_of, perform_of}
 use Rattle.history.specs.Numbers.{first, to_write}
+use Rattle.map.specs.declared.Region.{Region}
 
 -- 'Settings are the RW words except A04, A39 and the level counts.'
-abbrev pub read_write : Found → Bool
-read_write (At r) = readable r.access && writable r.access
-read_write Nothing = false
+abbrev pub read_write : Option Region → Bool
+read_write (Some r) = readable r.access && writable r.access
+read_write None = false
 
 abbrev pub excepted : Register → Bool
 excepted (R.Setting s) = false
@@ -56,4 +55,4 @@ pub data Does (x : State) (a v : ℕ) (y : State) : Type 0 where
 
 -- of every word that is not refused
 unfoldable pub AllEffects : Type 0
-AllEffects = (r : Found) (x : State) (a v : ℕ) → first (to_write r x a v) ≡ 0 → Does x a v (perform_of x a (effect_of (register_of a) v))
+AllEffects = (r : Option Region) (x : State) (a v : ℕ) → first (to_write r x a v) ≡ 0 → Does x a v (perform_of x a (effect_of (register_of a) v))

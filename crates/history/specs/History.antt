@@ -1,8 +1,6 @@
 -- A history of the card: ticks with their events, transfers, saves, checks, wave tables handed in, resets and fresh cards, one after the other.
-use Rattle.std.specs.Prelude.{◌≡◌, Bool, true, false, cond, List, [], ◌∷◌, ℕ, zero, suc, ◌+◌, ◌<◌, eqb, take}
+use Rattle.std.specs.Prelude.{◌≡◌, Bool, true, false, cond, List, [], ◌∷◌, ℕ, zero, suc, ◌+◌, ◌<◌, eqb, take, Option, Some, None}
 use Rattle.sum.specs.declared.Edition.{Edition}
-use Rattle.slots.specs.declared.Holder.{Holder}
-use Rattle.slots.specs.declared.Holder.TheVariants.{Level, Nobody}
 use Rattle.card.specs.Card.{State}
 use Rattle.card.specs.Trigger.{accepted_of}
 use Rattle.card.specs.Tick.{tick_with}
@@ -90,17 +88,17 @@ done_from st a (v ∷ vs) = done_from (perform_of st a (effect_of (register_of a
 -- ---- triggers
 
 -- the level written at 0x4202 by words done from address a on
-abbrev pub manual_among : ℕ → List ℕ → Holder
-manual_among a [] = Nobody
-manual_among a (v ∷ vs) = cond (eqb a 0x4202) (Level v) (manual_among (a + 1) vs)
+abbrev pub manual_among : ℕ → List ℕ → Option ℕ
+manual_among a [] = None
+manual_among a (v ∷ vs) = cond (eqb a 0x4202) (Some v) (manual_among (a + 1) vs)
 
 -- the level of the accepted trigger that an act is: 'an event .. is an accepted trigger of L; so is every word done at 0x4202'
-abbrev pub trigger_by : State → Act → Holder
+abbrev pub trigger_by : State → Act → Option ℕ
 trigger_by st (Tick waves event) = accepted_of st.settings event
 trigger_by st (Write start count ws) = manual_among start (words_done st start count ws)
-trigger_by st (Ask what) = Nobody
-trigger_by st (HandIn to ws) = Nobody
-trigger_by st (Renew how) = Nobody
+trigger_by st (Ask what) = None
+trigger_by st (HandIn to ws) = None
+trigger_by st (Renew how) = None
 
 -- a reset, or a fresh card in its place
 abbrev pub is_reset : Act → Bool
@@ -112,7 +110,7 @@ is_reset (Renew how) = true
 
 -- 'with no trigger accepted after it and no reset'
 pub record Calm (st : State) (x : Act) : Type 0 where
-  pub no_trigger : trigger_by st x ≡ Nobody
+  pub no_trigger : trigger_by st x ≡ None
   pub no_reset : is_reset x ≡ false
 
 abbrev pub Quiet : State → List Act → Type 0

@@ -1,14 +1,12 @@
 -- Document 02, Five: 'Of a passed bench we want it shown that no ramp loaded under those settings ever has a sum out of range. In sine mode
 -- this speaks of the amplitude.'
-use Rattle.std.specs.Prelude.{◌≡◌, Bool, true, false, ◌||◌, ◌⊎◌, List, [], ◌∷◌, ℕ, ◌+◌, ◌<◌}
-use Rattle.sum.specs.declared.Sum.TheVariants.{Overflow}
+use Rattle.std.specs.Prelude.{◌≡◌, Bool, true, false, ◌||◌, ◌⊎◌, List, [], ◌∷◌, ℕ, ◌+◌, ◌<◌, None, Ok}
 use Rattle.wave.specs.Sine.{sine_of}
 use Rattle.word.specs.Word.{grown}
 use Rattle.map.specs.Map.{base}
 use Rattle.channel.specs.Ramp.{is_sine}
 use Rattle.channel.specs.Signal.{overflows}
 use Rattle.card.specs.Card.{State, channel_of}
-use Rattle.profile.specs.declared.Verdict.TheVariants.{Passes}
 use Rattle.profile.specs.Profile.{verdict_of}
 use Rattle.history.specs.History.{Act, Tick, act, acts, read_back, Words16}
 use Rattle.history.specs.Sound.{Sound}
@@ -42,14 +40,14 @@ pub record PassedLoad (c : ℕ) (st : State) (x : Act) : Type 0 where
   pub words : Words16 (x ∷ [])
   pub inside : c < 4
   pub loads : load_among (happens c st x) ≡ true
-  pub passed : verdict_of st.card.edition st.settings ≡ Passes
+  pub passed : verdict_of st.card.edition st.settings ≡ Ok tt
 
 -- over a tick from y to z, with the wave tables w, a sample is given whose sine's product is out of range, and A39 counts it. After any
 -- history that product is −32768 × −16384 (`only_product`)
 pub record ProductCounted (c : ℕ) (w : List ℕ) (y z : State) : Type 0 where
   pub given : sample_among (in_tick w y c) ≡ true
   pub sine : is_sine (channel_of y.card c).loaded.tone.mode ≡ true
-  pub product : sine_of w c (channel_of z.card c).signal.counter (channel_of z.card c).shown.amplitude ≡ Overflow
+  pub product : sine_of w c (channel_of z.card c).signal.counter (channel_of z.card c).shown.amplitude ≡ None
   pub grows : read_back z (base c + 0xA39) ≡ grown (read_back y (base c + 0xA39))
 
 -- no ramp sum is counted: A39 stays, but for such a product

@@ -1,15 +1,14 @@
 -- 'Order: 1, 2, 3 once; then 4 to 8 for each word. Each number is given exactly in its case.'
-use Rattle.std.specs.Prelude.{◌≡◌, Bool, false, not, cond, List, [], ◌∷◌, ℕ, ◌+◌, ◌≤◌, ◌<◌, ltb, length, get_or, take}
+use Rattle.std.specs.Prelude.{◌≡◌, Bool, false, not, cond, List, [], ◌∷◌, ℕ, ◌+◌, ◌≤◌, ◌<◌, ltb, length, get_or, take, Option, Some, None, Result}
 use Rattle.map.specs.declared.Access.{Access}
-use Rattle.map.specs.declared.Found.{Found}
-use Rattle.map.specs.declared.Found.TheVariants.{At, Nothing}
 use Rattle.map.specs.Map.{region_of, register_of, accepted_at, in_region}
 use Rattle.map.specs.Settings.{is_fixed}
 use Rattle.card.specs.Card.{State}
-use Rattle.transfer.specs.declared.Answer.{Answer}
 use Rattle.transfer.specs.Word.{held_at, running_at}
 use Rattle.transfer.specs.Transfer.{Out, Filled, number_of, processed_of, bad_count, writable, readable}
 use Rattle.history.specs.History.{read_back, done_from}
+use Rattle.map.specs.declared.Region.{Region}
+use Rattle.transfer.specs.declared.Refusal.{Refusal}
 
 -- ---- the table
 
@@ -27,20 +26,20 @@ first [] = 0
 first (x ∷ xs) = cond x.holds x.number (first xs)
 
 -- 'region lacks this access'; 'next word lies beyond the start's region'
-abbrev pub lacks : (Access → Bool) → Found → Bool
-lacks may (At r) = not (may r.access)
-lacks may Nothing = false
+abbrev pub lacks : (Access → Bool) → Option Region → Bool
+lacks may (Some r) = not (may r.access)
+lacks may None = false
 
-abbrev pub beyond : Found → ℕ → Bool
-beyond (At r) a = ltb r.last a
-beyond Nothing a = false
+abbrev pub beyond : Option Region → ℕ → Bool
+beyond (Some r) a = ltb r.last a
+beyond None a = false
 
 -- 1, 2, 3: of a transfer whose start is in the region r
-abbrev pub once : (Access → Bool) → Found → ℕ → List ℕ → List Case
+abbrev pub once : (Access → Bool) → Option Region → ℕ → List ℕ → List Case
 once may r count ws = case 1 (bad_count count (length ws)) ∷ case 2 (not (in_region r)) ∷ case 3 (lacks may r) ∷ []
 
 -- 4 to 8: of a word v that comes to be written at address a
-abbrev pub to_write : Found → State → ℕ → ℕ → List Case
+abbrev pub to_write : Option Region → State → ℕ → ℕ → List Case
 to_write r st a v =
     case 4 (beyond r a)
     ∷ case 5 (is_fixed (register_of a))
@@ -50,16 +49,16 @@ to_write r st a v =
     ∷ []
 
 -- of a word to be read: 5 to 8 are of writes
-abbrev pub to_read : Found → ℕ → List Case
+abbrev pub to_read : Option Region → ℕ → List Case
 to_read r a = case 4 (beyond r a) ∷ []
 
 -- ---- a transfer
 
 -- the number that word i of a write is refused with, the words before it done; 0 if it is done
-abbrev pub write_refusal : Found → State → ℕ → List ℕ → ℕ → ℕ
+abbrev pub write_refusal : Option Region → State → ℕ → List ℕ → ℕ → ℕ
 write_refusal r st start ws i = first (to_write r (done_from st start (take i ws)) (start + i) (get_or ws i 0))
 
-abbrev pub read_refusal : Found → ℕ → ℕ → ℕ
+abbrev pub read_refusal : Option Region → ℕ → ℕ → ℕ
 read_refusal r start i = first (to_read r (start + i))
 
 -- number n and p words processed, of a transfer of count words that is refused with o at once and whose word i is refused with f i
@@ -72,7 +71,7 @@ pub data Given (o : ℕ) (f : ℕ → ℕ) (count n p : ℕ) : Type 0 where
   All : o ≡ 0 → ((i : ℕ) → i < count → f i ≡ 0) → n ≡ 0 → p ≡ count → Given o f count n p
 
 -- an answer is given in its case, and in no other
-pub record Exact (o : ℕ) (f : ℕ → ℕ) (count : ℕ) (w : Answer) : Type 0 where
+pub record Exact (o : ℕ) (f : ℕ → ℕ) (count : ℕ) (w : Result ℕ Refusal) : Type 0 where
   pub given : Given o f count (number_of w) (processed_of w)
   pub only : (n p : ℕ) → Given o f count n p → (n ≡ number_of w) × (p ≡ processed_of w)
 

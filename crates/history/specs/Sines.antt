@@ -1,8 +1,7 @@
 -- What histories make of the sine: document 02, Two.
-use Rattle.std.specs.Prelude.{◌≡◌, false, List, ℕ, ◌+◌, ◌*◌, ◌%◌, ◌<◌, ℤ, pos, neg_ℤ, length}
+use Rattle.std.specs.Prelude.{◌≡◌, false, List, ℕ, ◌+◌, ◌*◌, ◌%◌, ◌<◌, ℤ, pos, neg_ℤ, length, None}
 use Rattle.word.specs.Word.{signed_of}
 use Rattle.sum.specs.declared.Edition.{Edition}
-use Rattle.sum.specs.declared.Sum.TheVariants.{Overflow}
 use Rattle.wave.specs.Sine.{wave_word, sine_of}
 use Rattle.channel.specs.declared.Channel.{Channel}
 use Rattle.channel.specs.Ramp.{is_sine}
@@ -30,4 +29,4 @@ pub record SinesOverHistories : Type 0 where
   -- 'amplitude −32768 times word −16384 doesn't fit', and after any history of a fresh card no other product is out of range
   pub only_product : (edition : Edition) (s l w : List ℕ) → length w ≡ 4096 → (xs : List Act) (c : ℕ) → c < 4 → (counter amplitude : ℕ) → amplitude < 65536
       → let waves : List ℕ = waves_in (fresh_of edition s l) (waves_reset w) xs in
-      sine_of waves c counter amplitude ≡ Overflow → Lowest amplitude (wave_word waves c counter)
+      sine_of waves c counter amplitude ≡ None → Lowest amplitude (wave_word waves c counter)

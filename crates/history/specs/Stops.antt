@@ -1,7 +1,6 @@
 -- Document 02, Seven: 'Each transfer's answer shall also carry the address of the first word not done; for numbers 1 to 3 this is the
 -- start, and for 0 the address after the last word.' So a refused write is mended by writing on from there.
-use Rattle.std.specs.Prelude.{◌≡◌, true, ◌&&◌, List, ◌++◌, ℕ, ◌+◌, ◌-◌, ◌≤◌, ◌<◌, leb, ltb, length, get_or, take}
-use Rattle.map.specs.declared.Found.TheVariants.{At}
+use Rattle.std.specs.Prelude.{◌≡◌, true, ◌&&◌, List, ◌++◌, ℕ, ◌+◌, ◌-◌, ◌≤◌, ◌<◌, leb, ltb, length, get_or, take, Some}
 use Rattle.map.specs.declared.Region.{Region}
 use Rattle.map.specs.Map.{region_of, register_of}
 use Rattle.map.specs.Settings.{is_setting}
@@ -21,7 +20,7 @@ pub record StopsAt (start count : ℕ) (r : Reply) : Type 0 where
   pub once : 1 ≤ number_of r.answer → number_of r.answer ≤ 3 → r.address ≡ start
   pub all : number_of r.answer ≡ 0 → r.address ≡ start + count
   -- 4: the address after the region's last
-  pub beyond : (q : Region) → region_of start ≡ At q → number_of r.answer ≡ 4 → r.address ≡ q.last + 1
+  pub beyond : (q : Region) → region_of start ≡ Some q → number_of r.answer ≡ 4 → r.address ≡ q.last + 1
   -- in every case
   pub sum : r.address ≡ start + processed_of r.answer
   pub fits : start < 65536 → r.address < 65536
@@ -87,7 +86,7 @@ pub record Follow (start n : ℕ) (vs : List ℕ) : Type 0 where
   pub some : 1 ≤ length vs
   pub count : n + length vs ≤ 16381
   pub region : Region
-  pub found : region_of start ≡ At region
+  pub found : region_of start ≡ Some region
   pub inside : start + n ≤ region.last
 
 -- one write z is x and y, one after the other: it leaves the same, with the same number at the same address, and the words counted on

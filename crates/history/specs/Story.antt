@@ -1,13 +1,10 @@
 -- What a channel's words show after any history: its last load, its last sample, its amplitude and counter, its output, and how many samples
 -- overflowed since the last clearing.
-use Rattle.std.specs.Prelude.{◌≡◌, Bool, true, false, ◌||◌, cond, List, [], ◌∷◌, ◌++◌, ℕ, ◌+◌, ◌-◌, ◌%◌, ◌<◌, ltb, eqb, length}
+use Rattle.std.specs.Prelude.{◌≡◌, Bool, true, false, ◌||◌, cond, List, [], ◌∷◌, ◌++◌, ℕ, ◌+◌, ◌-◌, ◌%◌, ◌<◌, ltb, eqb, length, Option, Some, None}
 use Rattle.sum.specs.declared.Edition.{Edition}
-use Rattle.sum.specs.declared.Sum.{Sum}
 use Rattle.wave.specs.Sine.{sine_of}
 use Rattle.map.specs.Map.{base}
 use Rattle.map.specs.Addresses.{enable_at}
-use Rattle.slots.specs.declared.Holder.{Holder}
-use Rattle.slots.specs.declared.Holder.TheVariants.{Level, Nobody}
 use Rattle.channel.specs.declared.Place.{Place}
 use Rattle.channel.specs.declared.Loaded.{Loaded}
 use Rattle.channel.specs.declared.Ramp.{Ramp}
@@ -28,7 +25,7 @@ pub data Happening : Type 0 where
   -- table number, scale factor, offset, mode, frequency and phase are loaded
   Load : Loaded → Happening
   -- a ramp's sample is given: the wave tables then, whether it is sample 0, its place, and its sum
-  Sample : List ℕ → Bool → Place → Sum → Happening
+  Sample : List ℕ → Bool → Place → Option ℕ → Happening
   -- a free run's sample is given, with the wave tables then
   FreeSample : List ℕ → Happening
   -- a word is done at A04, or at A39
@@ -67,9 +64,9 @@ by_tick edition w s l c ch = in_phase edition ch.phase w s l c ch
 -- ---- an act
 
 -- a countdown that is set at 10 loads at once
-abbrev pub by_trigger : Holder → List ℕ → ℕ → List Happening
-by_trigger (Level level) s c = cond (loads_at (countdown s c level)) (Load (loaded_for s c level) ∷ []) []
-by_trigger Nobody s c = []
+abbrev pub by_trigger : Option ℕ → List ℕ → ℕ → List Happening
+by_trigger (Some level) s c = cond (loads_at (countdown s c level)) (Load (loaded_for s c level) ∷ []) []
+by_trigger None s c = []
 
 -- a word done at address a, and words done from there on
 abbrev pub by_word : ℕ → ℕ → ℕ → List Happening
@@ -122,12 +119,12 @@ fresh =
     }
 
 -- 'A33 and A34 show the last sample's n and m'; 'the ramp's sample becomes an amplitude', 'an amplitude overflow keeps the previous amplitude'
-abbrev pub ramped : Place → Sum → Told → Told
+abbrev pub ramped : Place → Option ℕ → Told → Told
 ramped p u x = record { loaded = x.loaded; place = p; amplitude = hold u x.amplitude; output = x.output; overflowed = x.overflowed; counter = x.counter }
 
 -- the output becomes this sum's word, or where it does not fit 'is held and counted in A39, which grows by at most 1 a sample'; `over`: the
 -- amplitude has overflowed, which is counted too; the counter becomes n
-abbrev pub sounds : Sum → Bool → ℕ → Told → Told
+abbrev pub sounds : Option ℕ → Bool → ℕ → Told → Told
 sounds y over n x =
     record {
       loaded = x.loaded;

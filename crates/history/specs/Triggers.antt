@@ -1,6 +1,5 @@
 -- The rule of accepted triggers, and what the event image shows.
-use Rattle.std.specs.Prelude.{◌≡◌, List, ℕ, ◌+◌, ◌<◌, length, get_or}
-use Rattle.slots.specs.declared.Holder.TheVariants.{Level}
+use Rattle.std.specs.Prelude.{◌≡◌, List, ℕ, ◌+◌, ◌<◌, length, get_or, Some}
 use Rattle.slots.specs.Slots.{slot_of, level_of}
 use Rattle.card.specs.Card.{State}
 use Rattle.history.specs.History.{Act, Tick, Write, Ask, HandIn, Renew, read_back, words_done, trigger_by}
@@ -37,8 +36,8 @@ Accepted st (Renew how) level = ⊥
 
 -- the triggers of a history are exactly those of the rule, whatever the channels are doing
 pub record TriggerRule : Type 0 where
-  pub accepted : (st : State) → Sound st → (x : Act) (level : ℕ) → Accepted st x level → trigger_by st x ≡ Level level
-  pub only : (st : State) (x : Act) (level : ℕ) → trigger_by st x ≡ Level level → Accepted st x level
+  pub accepted : (st : State) → Sound st → (x : Act) (level : ℕ) → Accepted st x level → trigger_by st x ≡ Some level
+  pub only : (st : State) (x : Act) (level : ℕ) → trigger_by st x ≡ Some level → Accepted st x level
 
 -- 'the event (0xFE if manual)'
 abbrev pub event_by : Act → ℕ

@@ -1,6 +1,6 @@
 -- The wave tables in a history: only a table that is taken and a reset write them, every tick reads them as they are then, and a channel that
 -- runs or free-runs keeps its own.
-use Rattle.std.specs.Prelude.{◌≡◌, true, false, cond, List, [], ◌∷◌, ℕ, suc, ◌+◌, ◌≤◌, ◌<◌, eqb, length, get_or, replicate}
+use Rattle.std.specs.Prelude.{◌≡◌, true, false, cond, List, [], ◌∷◌, ℕ, suc, ◌+◌, ◌≤◌, ◌<◌, eqb, length, get_or, replicate, Result, Ok, Err}
 use Rattle.word.specs.Word.{signed_of}
 use Rattle.sum.specs.declared.Edition.{Edition}
 use Rattle.wave.specs.Sine.{entries, wave_of, wave_at}
@@ -9,11 +9,11 @@ use Rattle.channel.specs.Channel.{runs_of}
 use Rattle.card.specs.declared.Card.{Card}
 use Rattle.card.specs.Card.{State, channel_of}
 use Rattle.card.specs.Reset.{waves_reset, fresh_of}
-use Rattle.wavetable.specs.declared.Reply.{Reply}
-use Rattle.wavetable.specs.declared.Reply.TheVariants.{Taken, Bad, Running}
 use Rattle.wavetable.specs.Hand.{Handed, bad_table, hand_of, reply_number}
 use Rattle.history.specs.History.{Act, Tick, Write, Ask, HandIn, Renew, act, is_reset, ticks_in, until, waves_on}
 use Rattle.history.specs.Numbers.{case, first}
+use Rattle.wavetable.specs.declared.Refusal.{Refusal}
+use Rattle.wavetable.specs.declared.Refusal.TheVariants.{Bad, Running}
 
 -- ---- one wave table handed in: 'first 9, for a channel above 3, a wrong length or a word out of range, then 8; neither changes anything'
 
@@ -62,10 +62,10 @@ LentAsLeft st w (HandIn to ws ∷ xs) = LentAsLeft st (waves_after st w (HandIn 
 LentAsLeft st w (Renew how ∷ xs) = LentAsLeft (act st (Renew how)) (waves_after st w (Renew how)) xs
 
 -- channel c's last wave table: a taken one, zeros after a reset, t before the acts
-abbrev pub taken_for : ℕ → ℕ → List ℕ → Reply → List ℕ → List ℕ
-taken_for c to ws Taken t = cond (eqb c to) ws t
-taken_for c to ws Bad t = t
-taken_for c to ws Running t = t
+abbrev pub taken_for : ℕ → ℕ → List ℕ → Result Unit Refusal → List ℕ → List ℕ
+taken_for c to ws (Ok tt) t = cond (eqb c to) ws t
+taken_for c to ws (Err Bad) t = t
+taken_for c to ws (Err Running) t = t
 
 abbrev pub table_by : ℕ → State → List ℕ → Act → List ℕ → List ℕ
 table_by c st w (Tick waves event) t = t

@@ -2,18 +2,20 @@
 use mathlib.Core.Path.{◌≡◌, ◌∙◌, ap, sym, refl, subst}
 use mathlib.Core.Bool.{Bool, true, false, cond}
 use mathlib.Core.List.{List, [], ◌∷◌, ◌++◌, append-nil, append_assoc}
-use Prim.Native.Nat.{ℕ, suc, ◌+◌, ◌≤◌, ◌<◌, min}
+use Prim.Native.Nat.{ℕ, suc, ◌+◌, ◌-◌, ◌≤◌, ◌<◌, min}
 use native.Mathlib.Numerals.{add-one}
 use native.Mathlib.Omega.{arith}
 use borrow.Author.Tests.{eq-eqb, ne_eqb, le-leb, lt-leb}
 use lib.Dec.{eqb, ltb, leb}
-use lib.ListN.{length, set, get_or, take, drop, length-append, drop_of_length-le}
+use Rattle.std.proofs.lemmas.Bool.{cond_both}
+use lib.ListN.{length, set, get_or, take, drop, length-append, length-drop, drop_of_length-le}
 use lib.Seq.{sets, take-suc, drop-cons}
+use Rattle.std.proofs.lemmas.List.{take-append-drop, take-set-le, drop-set-add, take_rest}
 use Rattle.card.specs.declared.Card.{Card}
 use Rattle.card.specs.Card.{State, state}
 use Rattle.line.specs.declared.Answered.{Answered}
-use Rattle.line.specs.Answer.{step_of, Answers}
-use Rattle.line.specs.Session.{Flow, flow, bare, after, most, longest, opened, ended, kept, byte_of, feed_of, taken_of, finish_of, Feeds, Keeps}
+use Rattle.line.specs.Answer.{Step, step_of, Answers}
+use Rattle.line.specs.Session.{Flow, flow, bare, after, most, longest, ended, kept, byte_of, feed_of, taken_of, Feeds, Keeps}
 use Rattle.digits.proofs.Digits.{take_min, then_at}
 
 -- ---- one byte
@@ -131,15 +133,12 @@ pub taken_turn : (w : List ℕ) (room : ℕ) (t : Flow) (s : List ℕ) (i : ℕ)
 taken_turn w room t s i h r e =
     e ∙ omega (arith, taken_more w room (feed_of w t (take i s)) s i h r, ap (λ (u : Flow). taken_of w room u (drop (i + 1) s)) (feed_more w t s i h))
 
-taken_cond : (q : Bool) (n m : ℕ) → n ≤ m → cond q (suc n) 0 ≤ suc m
-taken_cond true n m h = omega arith
-taken_cond false n m h = omega arith
-
 -- no more is taken than there is, and where there is room for an answer, something is
 pub taken_most : (w : List ℕ) (room : ℕ) (s : List ℕ) (t : Flow) → taken_of w room t s ≤ length s
 unfolding taken_of
 taken_most w room [] t = omega arith
-taken_most w room (b ∷ s) t = taken_cond (leb (length t.text + longest) room) _ (length s) (taken_most w room s (byte_of w t b))
+taken_most w room (b ∷ s) t =
+    cond_both (leb (length t.text + longest) room) _ 0 (λ (n : ℕ). n ≤ suc (length s)) (λ _. omega (arith, taken_most w room s (byte_of w t b))) (λ _. omega arith)
 
 pub taken_some : (w : List ℕ) (room : ℕ) (t : Flow) (s : List ℕ) → t.text ≡ [] → longest ≤ room → 0 < length s → 0 < taken_of w room t s
 unfolding taken_of
@@ -149,6 +148,33 @@ taken_some w room t (b ∷ s) e r h =
     rw (le-leb (length t.text + longest) room n) (omega arith)
 
 -- ---- the end of a line, and of the input
+
+-- stores from place i of the rest of a buffer are stores from place at + i of the buffer
+rest_sets : (o : List ℕ) (at i : ℕ) (x : List ℕ) → take at o ++ sets (drop at o) i x ≡ sets o (at + i) x
+rest_sets o at i [] = take-append-drop at o
+rest_sets o at i (v ∷ x) =
+    ap (λ (l : List ℕ). l ++ sets (set (drop at o) i v) (suc i) x) (sym (take-set-le at o (at + i) v (omega arith)))
+    ∙ ap (λ (l : List ℕ). take at (set o (at + i) v) ++ sets l (suc i) x) (sym (drop-set-add at o i v))
+    ∙ rest_sets (set o (at + i) v) at (suc i) x
+    ∙ ap (λ (k : ℕ). sets (set o (at + i) v) k x) (omega arith)
+
+-- what is laid into the rest of a buffer, from place `at` on, as the prover has that rest
+pub laid_in_rest : (d : Step) (at : ℕ) {a : Answered} (o : List ℕ) {p s t : List ℕ} → Answers d 0 (take (length o - at) (drop at o)) p s t a
+    → Answers d at o (take at o ++ (p ++ drop (length o - at) (drop at o))) s t (record { card = a.card; end = at + a.end })
+laid_in_rest d at {a} o {p} A =
+    let none : drop (length o - at) (drop at o) ≡ [] = drop_of_length-le (drop at o) {i = length o - at} (omega (arith, length-drop at o)) in
+    record {
+      same = A.same;
+      puts = record {
+        buffer =
+            ap (λ (l : List ℕ). take at o ++ (p ++ l)) none
+            ∙ ap (λ (l : List ℕ). take at o ++ l) (append-nil p ∙ A.puts.buffer ∙ ap (λ (l : List ℕ). sets l 0 d.text) (take_rest o at))
+            ∙ rest_sets o at 0 d.text
+            ∙ ap (λ (k : ℕ). sets o k d.text) (omega arith);
+        ends = omega (arith, A.puts.ends);
+        short = omega (arith, A.puts.short);
+      };
+    }
 
 pub end_feeds : (w : List ℕ) (st : State) (l : List ℕ) (held n at : ℕ) {a : Answered} {o o₁ o₂ s t : List ℕ}
     → n ≡ min held (length l) → Answers (step_of w st (take n l)) at o o₁ s t a → o₂ ≡ set o₁ a.end 10
@@ -168,21 +194,3 @@ end_feeds w st l held n at {a} {o} {o₁} {o₂} {s} {t} e A p =
       },
       omega (arith, B.puts.short),
     )
-
--- nothing is answered
-pub unfed : (k : Card) (s t l o : List ℕ) (held : ℕ) {k' : Card} {h h' end : ℕ}
-    → k' ≡ k → h' ≡ h → end ≡ 0 → h ≡ min held most → Feeds (opened k s t l held) 0 o o s t l k' h' end
-unfed k s t l o held {k'} {h} {h'} {end} p q r e =
-    record { same = ap (λ (x : Card). state x s t) p; lined = refl; holds = q ∙ e; at_most = omega arith; buffer = refl; ends = r }
-
-pub finish_none : (w : List ℕ) (room : ℕ) (t : Flow) → t.held ≡ 0 → t ≡ finish_of w room t
-unfolding finish_of
-finish_none w room t e = rw (eq-eqb t.held 0 e)
-
-pub finish_narrow : (w : List ℕ) (room : ℕ) (t : Flow) → (t.held ≡ 0 → ⊥) → room < longest → t ≡ finish_of w room t
-unfolding finish_of
-finish_narrow w room t e h = rw (ne_eqb t.held 0 e, lt-leb longest room h)
-
-pub finish_ends : (w : List ℕ) (room : ℕ) (t : Flow) → (t.held ≡ 0 → ⊥) → longest ≤ room → ended w t ≡ finish_of w room t
-unfolding finish_of
-finish_ends w room t e h = rw (ne_eqb t.held 0 e, le-leb longest room h)

@@ -1,30 +1,30 @@
 -- Frames by their name, the bounds on what they carry, and what a frame does to the card. Assumes nothing.
+use Rattle.std.specs.Prelude.{Option, Some, None}
 use mathlib.Core.Path.{◌≡◌, ◌∙◌, ap, sym, refl, subst}
 use mathlib.Core.Bool.{Bool, true, false, cond}
 use mathlib.Core.List.{List}
 use Prim.Native.Nat.{ℕ, zero, suc, ◌+◌, ◌*◌, ◌≤◌}
 use native.Mathlib.Omega.{arith}
 use borrow.Author.Tests.{leb-true}
+use Rattle.std.proofs.lemmas.Bool.{cond_both}
 use lib.Dec.{leb, eqb, ltb}
 use lib.ListN.{length, set, take, replicate, length-set}
 use lib.Seq.{sets, length-take-le}
 use Rattle.digits.specs.Digits.{all_digits, byte_at, word_at, hex2, hex4, hex_all}
-use Rattle.map.specs.declared.Found.{Found}
-use Rattle.map.specs.declared.Found.TheVariants.{At, Nothing}
 use Rattle.map.specs.Map.{region_of}
 use Rattle.card.specs.declared.Card.{Card}
 use Rattle.card.specs.Card.{State}
 use Rattle.card.proofs.Ticks.{same_state}
 use Rattle.transfer.specs.declared.Reply.{Reply}
-use Rattle.transfer.specs.declared.Written.{Written}
 use Rattle.transfer.specs.Word.{read_word}
-use Rattle.transfer.specs.Transfer.{Out, Filled, number_of, processed_of, reply_of, written, write_of, read_words, read_in, read_of, bad_count, readable}
+use Rattle.transfer.specs.Transfer.{Out, Filled, number_of, processed_of, reply_of, read_words, read_in, read_of, bad_count, readable}
 use Rattle.line.specs.declared.Frame.{Frame}
-use Rattle.line.specs.declared.Frame.TheVariants.{Write, Read, Ticks, Event, Bad}
+use Rattle.line.specs.declared.Frame.TheVariants.{Write, Read, Ticks, Event}
 use Rattle.line.specs.Frame.{words_in, named, frame_of, write_frame, read_frame, ticks_frame, event_frame}
 use Rattle.line.specs.Answer.{head_of, read_text, outputs_of, outputs_text, wrote, ticked, on_frame, step_of, Puts, Answers}
 use Rattle.digits.proofs.Digits.{then_at, length_hex2}
 use Rattle.line.proofs.Heads.{length_head_of, length_read}
+use Rattle.map.specs.declared.Region.{Region}
 
 -- ---- frames by their name
 
@@ -32,47 +32,40 @@ pub frame_named : (s : List ℕ) (b : ℕ) → all_digits s ≡ true → byte_at
 unfolding frame_of
 frame_named s b h e = rw (h, e)
 
-pub frame_other : (s : List ℕ) → all_digits s ≡ false → frame_of s ≡ Bad
-unfolding frame_of
-frame_other s h = rw h
-
-pub step_is : (w : List ℕ) (st : State) (s : List ℕ) (f : Frame) → frame_of s ≡ f → step_of w st s ≡ on_frame w st s f
+pub step_is : (w : List ℕ) (st : State) (s : List ℕ) (f : Option Frame) → frame_of s ≡ f → step_of w st s ≡ on_frame w st s f
 unfolding step_of
-step_is w st s f e = ap (λ (g : Frame). on_frame w st s g) e
+step_is w st s f e = ap (λ (g : Option Frame). on_frame w st s g) e
 
 -- ---- a frame's count is at most 64
 
-abbrev pub small : Frame → Type 0
-small (Write st n) = n ≤ 64
-small (Read st n) = n ≤ 64
-small (Ticks n) = Unit {0}
-small (Event e) = Unit {0}
-small Bad = Unit {0}
+abbrev pub small : Option Frame → Type 0
+small (Some (Write st n)) = n ≤ 64
+small (Some (Read st n)) = n ≤ 64
+small (Some (Ticks n)) = Unit {0}
+small (Some (Event e)) = Unit {0}
+small None = Unit {0}
 
-small_cond : (q : Bool) (a b : Frame) → small a → small b → small (cond q a b)
+small_cond : (q : Bool) (a b : Option Frame) → small a → small b → small (cond q a b)
 small_cond true a b p r = p
 small_cond false a b p r = r
 
-small_write : (q : Bool) (st n : ℕ) → leb n 64 ≡ q → small (cond q (Write st n) Bad)
+small_write : (q : Bool) (st n : ℕ) → leb n 64 ≡ q → small (cond q (Some (Write st n)) None)
 small_write true st n e = leb-true n 64 e
 small_write false st n e = tt
 
-small_read : (q : Bool) (st n : ℕ) → leb n 64 ≡ q → small (cond q (Read st n) Bad)
+small_read : (q : Bool) (st n : ℕ) → leb n 64 ≡ q → small (cond q (Some (Read st n)) None)
 small_read true st n e = leb-true n 64 e
 small_read false st n e = tt
 
-small_frame : (s : List ℕ) → small (frame_of s)
+pub small_frame : (s : List ℕ) → small (frame_of s)
 unfolding frame_of write_frame read_frame ticks_frame event_frame
 small_frame s =
-    small_cond (all_digits s) _ Bad
-    (small_cond (eqb (byte_at s 0) 1) _ _ (small_cond (eqb (length s) (6 + 4 * words_in s)) _ Bad (small_write _ (word_at s 2) (words_in s) refl) tt)
-    (small_cond (eqb (byte_at s 0) 2) _ _ (small_cond (eqb (length s) 10) _ Bad (small_read _ (word_at s 2) (word_at s 6) refl) tt)
-    (small_cond (eqb (byte_at s 0) 3) _ _ (small_cond (eqb (length s) 6) (Ticks (word_at s 2)) Bad tt tt)
-    (small_cond (eqb (byte_at s 0) 4) _ _ (small_cond (eqb (length s) 4) (Event (byte_at s 2)) Bad tt tt) tt))))
+    small_cond (all_digits s) _ None
+    (small_cond (eqb (byte_at s 0) 1) _ _ (small_cond (eqb (length s) (6 + 4 * words_in s)) _ None (small_write _ (word_at s 2) (words_in s) refl) tt)
+    (small_cond (eqb (byte_at s 0) 2) _ _ (small_cond (eqb (length s) 10) _ None (small_read _ (word_at s 2) (word_at s 6) refl) tt)
+    (small_cond (eqb (byte_at s 0) 3) _ _ (small_cond (eqb (length s) 6) (Some (Ticks (word_at s 2))) None tt tt)
+    (small_cond (eqb (byte_at s 0) 4) _ _ (small_cond (eqb (length s) 4) (Some (Event (byte_at s 2))) None tt tt) tt))))
     tt
-
-pub small_of : (s : List ℕ) (f : Frame) → frame_of s ≡ f → small f
-small_of s f e = subst small e (small_frame s)
 
 -- ---- a read processes at most as many words as it was asked for, and the slice keeps its length
 
@@ -81,27 +74,23 @@ pub record Within (most len : ℕ) (f : Filled) : Type 0 where
   pub done : processed_of f.answer ≤ most
   pub size : length f.words ≡ len
 
-within_cond : (q : Bool) (m l : ℕ) (f g : Filled) → Within m l f → Within m l g → Within m l (cond q f g)
-within_cond true m l f g p r = p
-within_cond false m l f g p r = r
-
 read_within : (s : List ℕ) (k : Card) (a last i n : ℕ) (ws : List ℕ) → Within (i + n) (length ws) (read_words s k a last i n ws)
 unfolding read_words
 read_within s k a last i zero ws = record { done = omega arith; size = refl }
 read_within s k a last i (suc n) ws =
     let v : ℕ = read_word s k a in
     let h = read_within s k (a + 1) last (i + 1) n (set ws i v) in
-    within_cond (ltb last a) (i + suc n) (length ws) _ _
-    (record { done = omega arith; size = refl })
-    (record { done = omega (arith, h.done); size = h.size ∙ length-set ws i v })
+    cond_both (ltb last a) _ _ (Within (i + suc n) (length ws))
+    (λ _. record { done = omega arith; size = refl })
+    (λ _. record { done = omega (arith, h.done); size = h.size ∙ length-set ws i v })
 
-in_within : (s : List ℕ) (k : Card) (start count : ℕ) (ws : List ℕ) (f : Found) → Within (0 + count) (length ws) (read_in s k start count ws f)
-in_within s k start count ws Nothing = record { done = omega arith; size = refl }
-in_within s k start count ws (At r) = within_cond (readable r.access) (0 + count) (length ws) _ _ (read_within s k start r.last 0 count ws) (record { done = omega arith; size = refl })
+in_within : (s : List ℕ) (k : Card) (start count : ℕ) (ws : List ℕ) (f : Option Region) → Within (0 + count) (length ws) (read_in s k start count ws f)
+in_within s k start count ws None = record { done = omega arith; size = refl }
+in_within s k start count ws (Some r) = cond_both (readable r.access) _ _ (Within (0 + count) (length ws)) (λ _. read_within s k start r.last 0 count ws) (λ _. record { done = omega arith; size = refl })
 
 pub read_bounds : (s : List ℕ) (k : Card) (start count : ℕ) (ws : List ℕ) → Within (0 + count) (length ws) (read_of s k start count ws)
 unfolding read_of
-read_bounds s k start count ws = within_cond (bad_count count (length ws)) (0 + count) (length ws) _ _ (record { done = omega arith; size = refl }) (in_within s k start count ws (region_of start))
+read_bounds s k start count ws = cond_both (bad_count count (length ws)) _ _ (Within (0 + count) (length ws)) (λ _. record { done = omega arith; size = refl }) (λ _. in_within s k start count ws (region_of start))
 
 -- ---- the answers, piece by piece
 
@@ -109,12 +98,12 @@ pub length_outputs : (name : ℕ) (k : Card) → length (outputs_text name k) �
 unfolding outputs_text hex_all hex4 hex2
 length_outputs name k = refl
 
-pub outputs_put : (o : List ℕ) (at name : ℕ) (k : Card) {o₁ o₂ ws : List ℕ}
-    → o₁ ≡ sets o at (hex2 name) → o₂ ≡ sets o₁ (at + 2) (hex_all (take 4 ws)) → ws ≡ outputs_of k → Puts (outputs_text name k) at o o₂ (at + 18)
+pub outputs_put : (o : List ℕ) (at name : ℕ) (k : Card) {o' : List ℕ}
+    → o' ≡ sets (sets o at (hex2 name)) (at + 2) (hex_all (take 4 (outputs_of k))) → Puts (outputs_text name k) at o o' (at + 18)
 unfolding outputs_text
-outputs_put o at name k {o₁} {o₂} {ws} p q e =
+outputs_put o at name k p =
     record {
-      buffer = then_at o at (hex2 name) (hex_all (outputs_of k)) p (q ∙ ap (λ (x : List ℕ). sets o₁ (at + 2) (hex_all (take 4 x))) e) (ap (λ (n : ℕ). at + n) (sym (length_hex2 name)));
+      buffer = then_at o at (hex2 name) (hex_all (outputs_of k)) refl p (ap (λ (n : ℕ). at + n) (sym (length_hex2 name)));
       ends = ap (λ (n : ℕ). at + n) (sym (length_outputs name k));
       short = omega arith;
     }
@@ -124,30 +113,18 @@ pub ticked_answers : (st : State) (name at : ℕ) {k : Card} {s l o o' : List �
 ticked_answers st name at {o = o} {o'} {to} p q r h =
     record { same = same_state st p q r; puts = subst (λ (x : Card). Puts (outputs_text name x) at o o' to) p h }
 
-pub wrote_answers : (st : State) (start count at : ℕ) {ws ws' s l o o' : List ℕ} {w : Written} {number processed : ℕ}
-    → ws ≡ ws'
-    → w ≡ written start (write_of st start count ws)
-    → s ≡ (write_of st start count ws).state.settings
-    → l ≡ (write_of st start count ws).state.tables
-    → number ≡ number_of w.reply.answer
-    → processed ≡ processed_of w.reply.answer
-    → o' ≡ sets o at (head_of 0x81 number processed)
-    → Answers (wrote (write_of st start count ws')) at o o' s l (record { card = w.card; end = at + 8 })
-wrote_answers st start count at {ws} {ws'} {s} {l} {o} {o'} {w} {number} {processed} f e p q x y h =
-    let d : Out = write_of st start count ws in
-    let a : w.reply.answer ≡ d.answer = ap (λ (v : Written). v.reply.answer) e in
-    let n : number ≡ number_of d.answer = x ∙ ap number_of a in
-    let m : processed ≡ processed_of d.answer = y ∙ ap processed_of a in
-    let r : Answers (wrote d) at o o' s l (record { card = w.card; end = at + 8 }) =
+pub wrote_answers : (d : Out) (at : ℕ) {k : Card} {s l o o' : List ℕ}
+    → k ≡ d.state.card → l ≡ d.state.tables → s ≡ d.state.settings → o' ≡ sets o at (head_of 0x81 (number_of d.answer) (processed_of d.answer))
+    → Answers (wrote d) at o o' s l (record { card = k; end = at + 8 })
+wrote_answers d at p q r h =
     record {
-      same = same_state d.state (ap (λ (v : Written). v.card) e) q p;
+      same = same_state d.state p q r;
       puts = record {
-        buffer = h ∙ ap (λ (z : ℕ). sets o at (head_of 0x81 z processed)) n ∙ ap (λ (z : ℕ). sets o at (head_of 0x81 (number_of d.answer) z)) m;
+        buffer = h;
         ends = ap (λ (z : ℕ). at + z) (sym (length_head_of 0x81 (number_of d.answer) (processed_of d.answer)));
         short = omega arith;
       };
-    } in
-    subst (λ (v : List ℕ). Answers (wrote (write_of st start count v)) at o o' s l (record { card = w.card; end = at + 8 })) f r
+    }
 
 -- a read of up to 64 words into 64
 module _ (s : List ℕ) (k : Card) (start count : ℕ) (few : count ≤ 64) {a : Reply} {n : ℕ} (ae : a ≡ reply_of start (read_of s k start count (replicate 64 0)).answer) (ne : n ≡ processed_of a.answer) where

@@ -1,17 +1,20 @@
 -- However its input is cut into chunks, and whatever the room for answers, the program writes the session's answers,
 -- one line for each line. Assumes nothing.
+use Rattle.std.specs.Prelude.{None, Option, Some}
 use mathlib.Core.Path.{◌≡◌, ◌∙◌, ap, sym, refl, subst}
 use mathlib.Core.Bool.{Bool, true, false, cond}
 use mathlib.Core.List.{List, [], ◌∷◌, ◌++◌, append-nil, append_assoc}
-use Prim.Native.Nat.{ℕ, zero, suc, ◌+◌, ◌*◌, ◌-◌, ◌/◌, ◌%◌, ◌≤◌, ◌<◌, min}
+use Prim.Native.Nat.{ℕ, zero, suc, ◌+◌, ◌/◌, ◌%◌, ◌≤◌, ◌<◌, min}
 use native.Mathlib.Numerals.{add-one}
 use native.Mathlib.Omega.{arith}
-use borrow.Author.Tests.{eq-eqb, ne_eqb, eqb-true, ltb-true, ltb-false, le-leb, lt-leb}
+use borrow.Author.Tests.{eq-eqb, ne_eqb, ltb-true, ltb-false, le-leb}
 use lib.Dec.{eqb, ltb, leb}
+use Rattle.std.proofs.lemmas.Bool.Decides.{nat_tests}
+use Rattle.std.proofs.lemmas.List.{take-append-drop}
 use lib.ListN.{length, set, take, drop, replicate, length-append, length-set, length-take, length-drop}
 use lib.Seq.{take-suc-set, take_all, take-append-le, length-take-le}
 use Rattle.word.specs.Every.{every}
-use Rattle.digits.specs.Digits.{all_digits, byte_at, word_at, hex2, hex4, hex_all}
+use Rattle.digits.specs.Digits.{byte_at, word_at, hex2, hex4, hex_all}
 use Rattle.sum.specs.declared.Edition.TheVariants.{First}
 use Rattle.card.specs.declared.Card.{Card}
 use Rattle.card.specs.Card.{State, state}
@@ -19,10 +22,10 @@ use Rattle.card.specs.Reset.{waves_reset, fresh_of}
 use Rattle.card.specs.Tick.{tick_with, ticks}
 use Rattle.transfer.specs.Transfer.{Out, Filled, number_of, processed_of, write_of, read_of}
 use Rattle.line.specs.declared.Frame.{Frame}
-use Rattle.line.specs.declared.Frame.TheVariants.{Write, Read, Ticks, Event, Bad}
+use Rattle.line.specs.declared.Frame.TheVariants.{Write, Read, Ticks, Event}
 use Rattle.line.specs.declared.Answered.{Answered}
 use Rattle.line.specs.declared.Stream.{Stream}
-use Rattle.line.specs.Frame.{words_in, words_of, frame_of, write_frame, read_frame, ticks_frame, event_frame}
+use Rattle.line.specs.Frame.{words_of, frame_of, write_frame, read_frame, ticks_frame, event_frame}
 use Rattle.line.specs.Answer.{head_of, outputs_of, outputs_text, Step, on_frame, step_of, Answers}
 use Rattle.line.specs.Session.{lines_from, lines_of, answers_of, played_of, session, Flow, flow, bare, after, most, longest, ended, kept, byte_of, feed_of, taken_of, finish_of, Feeds, stream_of, Fed, Finished, serve_of, written_of, joined, ends_in}
 use Rattle.digits.proofs.Digits.{take_sets}
@@ -31,36 +34,15 @@ use Rattle.line.proofs.Flows.{kept_is, feed_append, feed_after, taken_some}
 
 -- ---- a line that is too long is no frame, and no more of it than 263 bytes is looked at
 
-same_cond : {A : Type 0} (q : Bool) (a b x : A) → a ≡ x → b ≡ x → cond q a b ≡ x
-same_cond true a b x p r = p
-same_cond false a b x p r = r
-
-write_long : (s : List ℕ) (q : Bool) → most ≤ length s → eqb (length s) (6 + 4 * words_in s) ≡ q
-    → cond q (cond (leb (words_in s) 64) (Write (word_at s 2) (words_in s)) Bad) Bad ≡ Bad
-write_long s true h e =
-    let l : length s ≡ 6 + 4 * ((length s - 6) / 4) = eqb-true _ _ e in
-    let k : 64 < (length s - 6) / 4 = omega arith in
-    rw (lt-leb _ _ k)
-write_long s false h e = refl
-
-pub frame_long : (s : List ℕ) → most ≤ length s → frame_of s ≡ Bad
+pub frame_long : (s : List ℕ) → most ≤ length s → frame_of s ≡ None
 unfolding frame_of write_frame read_frame ticks_frame event_frame
-frame_long s h =
-    let n10 : (length s ≡ 10 → ⊥) = λ e. omega arith in
-    let n6 : (length s ≡ 6 → ⊥) = λ e. omega arith in
-    let n4 : (length s ≡ 4 → ⊥) = λ e. omega arith in
-    same_cond (all_digits s) _ Bad Bad
-    (same_cond (eqb (byte_at s 0) 1) _ _ Bad (write_long s _ h refl)
-    (same_cond (eqb (byte_at s 0) 2) _ _ Bad (rw (ne_eqb _ _ n10))
-    (same_cond (eqb (byte_at s 0) 3) _ _ Bad (rw (ne_eqb _ _ n6))
-    (same_cond (eqb (byte_at s 0) 4) _ _ Bad (rw (ne_eqb _ _ n4)) refl))))
-    refl
+frame_long s h = grind (arith, nat_tests)
 
 clip_by : (w : List ℕ) (st : State) (p : List ℕ) (q : Bool) → ltb most (length p) ≡ q → step_of w st (take most p) ≡ step_of w st p
 clip_by w st p true e =
     let h : most < length p = ltb-true _ _ e in
     let k : most ≤ length (take most p) = omega (arith, length-take-le most p (omega arith)) in
-    step_is w st (take most p) Bad (frame_long (take most p) k) ∙ sym (step_is w st p Bad (frame_long p (omega arith)))
+    step_is w st (take most p) None (frame_long (take most p) k) ∙ sym (step_is w st p None (frame_long p (omega arith)))
 clip_by w st p false e = ap (step_of w st) (take_all most p (ltb-false _ _ e))
 
 -- 263 KEPT BYTES DECIDE A LINE
@@ -70,7 +52,7 @@ clip w st p = clip_by w st p _ refl
 -- and a longer line answers FF, and changes nothing
 pub long_line : (w : List ℕ) (st : State) (p : List ℕ) → most ≤ length p → ((step_of w st p).text ≡ 70 ∷ 70 ∷ []) × ((step_of w st p).state ≡ st)
 unfolding hex2
-long_line w st p h = let e : step_of w st p ≡ on_frame w st p Bad = step_is w st p Bad (frame_long p h) in (ap (λ (d : Step). d.text) e, ap (λ (d : Step). d.state) e)
+long_line w st p h = let e : step_of w st p ≡ on_frame w st p None = step_is w st p None (frame_long p h) in (ap (λ (d : Step). d.text) e, ap (λ (d : Step). d.state) e)
 
 -- ---- the buffer holds the line that has begun, up to 263 bytes of it
 
@@ -187,11 +169,6 @@ finish_after : (w : List ℕ) (room : ℕ) (t : Flow) → (finish_of w room t).t
 unfolding finish_of
 finish_after w room t = finish_by w (eqb t.held 0) (leb longest room) t
 
-take_drop : (k : ℕ) (s : List ℕ) → take k s ++ drop k s ≡ s
-take_drop zero s = refl
-take_drop (suc k) [] = refl
-take_drop (suc k) (b ∷ s) = ap (λ (l : List ℕ). b ∷ l) (take_drop k s)
-
 module _ (w : List ℕ) (room : ℕ) (r : longest ≤ room) where
   -- each call leaves less
   shorter : (n : ℕ) (t : Flow) (s : List ℕ) → t.text ≡ [] → length s ≤ suc n → length (drop (taken_of w room t s) s) ≤ n
@@ -204,13 +181,13 @@ module _ (w : List ℕ) (room : ℕ) (r : longest ≤ room) where
   pub serve_all : (n : ℕ) (t : Flow) (s : List ℕ) → length s ≤ n → serve_of w n room t s ≡ feed_of w t s
   unfolding serve_of feed_of
   serve_all zero t [] h = refl
-  serve_all zero t (b ∷ s) h = let z : ⊥ = omega arith in absurd z
+  serve_all zero t (b ∷ s) h = absurd (omega arith)
   serve_all (suc n) t s h =
       let k : ℕ = taken_of w room (bare t) s in
       serve_all n (after t.text (feed_of w (bare t) (take k s))) (drop k s) (shorter n (bare t) s refl h)
       ∙ ap (λ (x : Flow). feed_of w x (drop k s)) (sym (feed_after w (take k s) t))
       ∙ sym (feed_append w t (take k s) (drop k s))
-      ∙ ap (feed_of w t) (take_drop k s)
+      ∙ ap (feed_of w t) (take-append-drop k s)
 
   written_is : (cs : List (List ℕ)) (t : Flow) → written_of w room t cs ≡ (finish_of w room (feed_of w t (joined cs))).text
   unfolding written_of joined feed_of
@@ -271,14 +248,14 @@ ends_outputs : (name : ℕ) (k : Card) → ends_in (outputs_text name k) ≡ 0
 unfolding outputs_text
 ends_outputs name k = ends_append (hex2 name) (hex_all (outputs_of k)) ∙ omega (arith, ends_hex2 name, ends_hex_all (outputs_of k))
 
-ends_frame : (w : List ℕ) (st : State) (s : List ℕ) (f : Frame) → ends_in (on_frame w st s f).text ≡ 0
-ends_frame w st s (Write start n) = let o : Out = write_of st start n (words_of n s) in ends_head 0x81 (number_of o.answer) (processed_of o.answer)
-ends_frame w st s (Read start n) =
+ends_frame : (w : List ℕ) (st : State) (s : List ℕ) (f : Option Frame) → ends_in (on_frame w st s f).text ≡ 0
+ends_frame w st s (Some (Write start n)) = let o : Out = write_of st start n (words_of n s) in ends_head 0x81 (number_of o.answer) (processed_of o.answer)
+ends_frame w st s (Some (Read start n)) =
     let f : Filled = read_of st.settings st.card start n (replicate 64 0) in
     ends_read 0x82 (number_of f.answer) (processed_of f.answer) (take (processed_of f.answer) f.words)
-ends_frame w st s (Ticks n) = ends_outputs 0x83 (ticks w n st).card
-ends_frame w st s (Event e) = ends_outputs 0x84 (tick_with w st e).card
-ends_frame w st s Bad = ends_hex2 0xFF
+ends_frame w st s (Some (Ticks n)) = ends_outputs 0x83 (ticks w n st).card
+ends_frame w st s (Some (Event e)) = ends_outputs 0x84 (tick_with w st e).card
+ends_frame w st s None = ends_hex2 0xFF
 
 ends_step : (w : List ℕ) (st : State) (s : List ℕ) → ends_in (step_of w st s).text ≡ 0
 unfolding step_of
@@ -350,12 +327,12 @@ answered_once d at before a a' s s' l l' r r' f g =
 
 -- 020A330002, 0142020001, 03000A, 0410; a lower-case a, and an empty line
 pub frames_read :
-    (frame_of (48 ∷ 50 ∷ 48 ∷ 65 ∷ 51 ∷ 51 ∷ 48 ∷ 48 ∷ 48 ∷ 50 ∷ []) ≡ Read 0x0A33 2)
-    × (frame_of (48 ∷ 49 ∷ 52 ∷ 50 ∷ 48 ∷ 50 ∷ 48 ∷ 48 ∷ 48 ∷ 49 ∷ []) ≡ Write 0x4202 1)
-    × (frame_of (48 ∷ 51 ∷ 48 ∷ 48 ∷ 48 ∷ 65 ∷ []) ≡ Ticks 10)
-    × (frame_of (48 ∷ 52 ∷ 49 ∷ 48 ∷ []) ≡ Event 16)
-    × (frame_of (48 ∷ 51 ∷ 48 ∷ 48 ∷ 48 ∷ 97 ∷ []) ≡ Bad)
-    × (frame_of [] ≡ Bad)
+    (frame_of (48 ∷ 50 ∷ 48 ∷ 65 ∷ 51 ∷ 51 ∷ 48 ∷ 48 ∷ 48 ∷ 50 ∷ []) ≡ Some (Read 0x0A33 2))
+    × (frame_of (48 ∷ 49 ∷ 52 ∷ 50 ∷ 48 ∷ 50 ∷ 48 ∷ 48 ∷ 48 ∷ 49 ∷ []) ≡ Some (Write 0x4202 1))
+    × (frame_of (48 ∷ 51 ∷ 48 ∷ 48 ∷ 48 ∷ 65 ∷ []) ≡ Some (Ticks 10))
+    × (frame_of (48 ∷ 52 ∷ 49 ∷ 48 ∷ []) ≡ Some (Event 16))
+    × (frame_of (48 ∷ 51 ∷ 48 ∷ 48 ∷ 48 ∷ 97 ∷ []) ≡ None)
+    × (frame_of [] ≡ None)
 unfolding frame_of every byte_at word_at write_frame read_frame ticks_frame event_frame
 frames_read = (refl, refl, refl, refl, refl, refl)
 

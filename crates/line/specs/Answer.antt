@@ -1,5 +1,5 @@
 -- 'Answer line': the answer to a line, and the state after it.
-use Rattle.std.specs.Prelude.{◌≡◌, Bool, true, false, not, ◌&&◌, ◌||◌, List, [], ◌∷◌, ◌++◌, ℕ, ◌+◌, ◌≤◌, eqb, length, take, replicate}
+use Rattle.std.specs.Prelude.{◌≡◌, Bool, true, false, not, ◌&&◌, ◌||◌, List, [], ◌∷◌, ◌++◌, ℕ, ◌+◌, ◌≤◌, eqb, length, take, replicate, None, Option, Some}
 use Rattle.std.proofs.lemmas.List.Edits.{sets}
 use Rattle.digits.specs.Digits.{byte_at, hex2, hex4, hex_all}
 use Rattle.card.specs.declared.Card.{Card}
@@ -7,7 +7,7 @@ use Rattle.card.specs.Card.{State, state, channel_of}
 use Rattle.card.specs.Tick.{tick_with, ticks}
 use Rattle.transfer.specs.Transfer.{Out, Filled, number_of, processed_of, write_of, read_of}
 use Rattle.line.specs.declared.Frame.{Frame}
-use Rattle.line.specs.declared.Frame.TheVariants.{Write, Read, Ticks, Event, Bad}
+use Rattle.line.specs.declared.Frame.TheVariants.{Write, Read, Ticks, Event}
 use Rattle.line.specs.declared.Answered.{Answered}
 use Rattle.line.specs.Frame.{words_of, frame_of}
 
@@ -46,12 +46,12 @@ abbrev pub ticked : ℕ → State → Step
 ticked name st = step st (outputs_text name st.card)
 
 -- 'write', 'read', 'N ticks, no event', 'one tick', with the wave tables w; any other line 'answers FF', and nothing changes
-abbrev pub on_frame : List ℕ → State → List ℕ → Frame → Step
-on_frame w st s (Write start count) = wrote (write_of st start count (words_of count s))
-on_frame w st s (Read start count) = step st (read_text (read_of st.settings st.card start count (replicate 64 0)))
-on_frame w st s (Ticks n) = ticked 0x83 (ticks w n st)
-on_frame w st s (Event e) = ticked 0x84 (tick_with w st e)
-on_frame w st s Bad = step st (hex2 0xFF)
+abbrev pub on_frame : List ℕ → State → List ℕ → Option Frame → Step
+on_frame w st s (Some (Write start count)) = wrote (write_of st start count (words_of count s))
+on_frame w st s (Some (Read start count)) = step st (read_text (read_of st.settings st.card start count (replicate 64 0)))
+on_frame w st s (Some (Ticks n)) = ticked 0x83 (ticks w n st)
+on_frame w st s (Some (Event e)) = ticked 0x84 (tick_with w st e)
+on_frame w st s None = step st (hex2 0xFF)
 
 -- what a line does
 unfoldable pub step_of : List ℕ → State → List ℕ → Step
@@ -59,12 +59,12 @@ step_of w st s = on_frame w st s (frame_of s)
 
 -- ---- a line that is not answered 0: it 'answers FF', or with a number; ticks and events have none
 
-abbrev pub refused_frame : State → List ℕ → Frame → Bool
-refused_frame st s (Write start count) = not (eqb (number_of (write_of st start count (words_of count s)).answer) 0)
-refused_frame st s (Read start count) = not (eqb (number_of (read_of st.settings st.card start count (replicate 64 0)).answer) 0)
-refused_frame st s (Ticks n) = false
-refused_frame st s (Event e) = false
-refused_frame st s Bad = true
+abbrev pub refused_frame : State → List ℕ → Option Frame → Bool
+refused_frame st s (Some (Write start count)) = not (eqb (number_of (write_of st start count (words_of count s)).answer) 0)
+refused_frame st s (Some (Read start count)) = not (eqb (number_of (read_of st.settings st.card start count (replicate 64 0)).answer) 0)
+refused_frame st s (Some (Ticks n)) = false
+refused_frame st s (Some (Event e)) = false
+refused_frame st s None = true
 
 -- as its answer tells it
 abbrev pub refused_in : List ℕ → Bool

@@ -1,9 +1,11 @@
 -- The register names something exactly where the table has a region. Assumes nothing.
 use mathlib.Core.Path.{◌≡◌, refl, sym, ◌∙◌}
-use mathlib.Core.Bool.{Bool, true, false, not, cond}
+use mathlib.Core.Bool.{Bool, true, false, cond}
 use mathlib.Core.List.{List}
-use Prim.Native.Nat.{ℕ, ◌-◌, ◌/◌, ◌%◌, ◌<◌, ◌≤◌}
-use lib.Dec.{T, ltb, ltb→lt, nltb→le}
+use Prim.Native.Nat.{ℕ, ◌-◌, ◌/◌, ◌%◌}
+use lib.Dec.{ltb}
+use Rattle.std.proofs.Common.{inl, inr}
+use Rattle.std.proofs.lemmas.Bool.{cases_lt}
 use Rattle.map.specs.declared.Setting.{Setting}
 use Rattle.map.specs.declared.Register.TheVariants as R
 use Rattle.map.specs.Map.{Row, Hit, hit, miss, scan, channel_rows, card_rows, settings, found_in, named_in, region_of, register_of, named, in_region}
@@ -45,11 +47,9 @@ raise_found b miss = refl
 
 -- THE REGISTERS AGREE WITH THE REGIONS, at every address
 pub agree : (a : ℕ) → named (register_of a) ≡ in_region (region_of a)
-agree a = by (ltb a 0x4000) (ltb→lt a 0x4000) (nltb→le a 0x4000)
-  where
-    by : (b : Bool) → (T b → a < 0x4000) → (T (not b) → 0x4000 ≤ a) → named (register_of a) ≡ in_region (region_of a)
-    by true f g =
-        let h = f tt in
-        rw (channel_register a h, in_channel a h)
-        (over channel_rows channel_names (a / 0x1000) (a % 0x1000) ∙ sym (raise_found _ (scan channel_rows (a % 0x1000))))
-    by false f g = rw (in_card a (g tt)) (over card_rows card_names (a / 0x1000) a)
+agree a = elim (cases_lt a 0x4000) [
+  | inl h ↦
+      rw (channel_register a h, in_channel a h)
+      (over channel_rows channel_names (a / 0x1000) (a % 0x1000) ∙ sym (raise_found _ (scan channel_rows (a % 0x1000))))
+  | inr h ↦ rw (in_card a h) (over card_rows card_names (a / 0x1000) a)
+]

@@ -1,11 +1,10 @@
 -- What a caller needs of the table: the regions are disjoint, an address lies in its region, and every address there has the same one.
 -- Assumes nothing.
+use Rattle.std.specs.Prelude.{Some}
 use mathlib.Core.Path.{◌≡◌, refl, ap}
 use Prim.Native.Nat.{ℕ, ◌≤◌, ◌<◌}
-use native.Mathlib.Omega.{arith}
 use lib.ListN.{length}
 use Rattle.map.specs.declared.Region.{Region}
-use Rattle.map.specs.declared.Found.TheVariants.{At}
 use Rattle.map.specs.Map.{Row, Hit, hit, miss, scan, channel_rows, card_rows, block, regions, row_of, found_in, region_of}
 use Rattle.map.proofs.Rows.{apart, found, Hits, at, hits}
 use Rattle.map.proofs.Blocks.{in_order}
@@ -24,18 +23,15 @@ disjoint k h j g = apart 0 regions in_order j k g (rw row_count h)
 pub data Row-of (a : ℕ) (q : Region) : Type 0 where
   row_of_lem : (r : Row) → scan regions a ≡ hit r → r.region ≡ q → Row-of a q
 
-pub row_at : (a : ℕ) (q : Region) → region_of a ≡ At q → Row-of a q
+pub row_at : (a : ℕ) (q : Region) → region_of a ≡ Some q → Row-of a q
 row_at a q e = go (scan regions a) refl e
   where
-    same : (x : Region) → At x ≡ At q → x ≡ q
-    same x e = cc
-
-    go : (h : Hit) → scan regions a ≡ h → found_in h ≡ At q → Row-of a q
-    go (hit r) w f = row_of_lem r w (same r.region f)
-    go miss w f = let z : ◌≡◌ {A = ℕ} 0 1 = cc in absurd (omega arith)
+    go : (h : Hit) → scan regions a ≡ h → found_in h ≡ Some q → Row-of a q
+    go (hit r) w f = row_of_lem r w cc
+    go miss w f = absurd cc
 
 -- an address lies in its region
-pub lies : (a : ℕ) (q : Region) → region_of a ≡ At q → (q.first ≤ a) × (a ≤ q.last)
+pub lies : (a : ℕ) (q : Region) → region_of a ≡ Some q → (q.first ≤ a) × (a ≤ q.last)
 lies a q e = go (row_at a q e)
   where
     go : Row-of a q → (q.first ≤ a) × (a ≤ q.last)
@@ -45,11 +41,11 @@ lies a q e = go (row_at a q e)
         in_row (at k h x f g) = rw (← m) (f, g)
 
 -- and every address from its first to its last has the same region
-pub same_region : (a b : ℕ) (q : Region) → region_of a ≡ At q → q.first ≤ b → b ≤ q.last → region_of b ≡ At q
+pub same_region : (a b : ℕ) (q : Region) → region_of a ≡ Some q → q.first ≤ b → b ≤ q.last → region_of b ≡ Some q
 same_region a b q e f g = go (row_at a q e)
   where
-    go : Row-of a q → region_of b ≡ At q
+    go : Row-of a q → region_of b ≡ Some q
     go (row_of_lem r w m) = in_row (hits regions a r w)
       where
-        in_row : Hits regions a r → region_of b ≡ At q
-        in_row (at k h x u v) = rw (found 0 regions in_order k b h (rw (x, m) f) (rw (x, m) g), x) (ap At m)
+        in_row : Hits regions a r → region_of b ≡ Some q
+        in_row (at k h x u v) = rw (found 0 regions in_order k b h (rw (x, m) f) (rw (x, m) g), x) (ap Some m)

@@ -1,11 +1,11 @@
 -- No region reaches past the level counts, so every listed word has its place among the 16,960 words lent as settings. Assumes nothing.
+use Rattle.std.specs.Prelude.{Some}
 use mathlib.Core.Path.{◌≡◌, refl, sym}
 use mathlib.Core.Bool.{true, true≢false}
 use Prim.Native.Nat.{ℕ, ◌/◌, ◌<◌}
 use native.Mathlib.Omega.{arith}
 use lib.Dec.{T}
 use Rattle.map.specs.declared.Region.{Region}
-use Rattle.map.specs.declared.Found.TheVariants.{At}
 use Rattle.map.specs.Map.{Hit, hit, miss, scan, channel_rows, card_rows, block, regions, named_in, named, region_of, register_of}
 use Rattle.map.proofs.Rows.{Hits, at, hits}
 use Rattle.map.proofs.Order.{short, scan_short}
@@ -16,7 +16,7 @@ unfolding regions block channel_rows card_rows
 all_short = tt
 
 -- NO REGION REACHES PAST THE LEVEL COUNTS
-pub region_below : (a : ℕ) (q : Region) → region_of a ≡ At q → q.last < 16960
+pub region_below : (a : ℕ) (q : Region) → region_of a ≡ Some q → q.last < 16960
 region_below a q e = go (row_at a q e)
   where
     go : Row-of a q → q.last < 16960

@@ -52,7 +52,7 @@ apart p (r ∷ rs) t zero (suc k) g h = from (suc r.region.last) rs (rest p r rs
 apart p (r ∷ rs) t (suc j) (suc k) g h = apart (suc r.region.last) rs (rest p r rs t) j k (le_of_suc-le-suc g) (le_of_suc-le-suc h)
 
 -- no row of an ordered table is empty
-not_empty : (p : ℕ) (l : List Row) → T (ordered p l) → (k : ℕ) → k < length l → (get_or l k no_row).region.first ≤ (get_or l k no_row).region.last
+pub not_empty : (p : ℕ) (l : List Row) → T (ordered p l) → (k : ℕ) → k < length l → (get_or l k no_row).region.first ≤ (get_or l k no_row).region.last
 not_empty p [] t k h = absurd (not-suc-le-zero h)
 not_empty p (r ∷ rs) t zero h = some p r rs t
 not_empty p (r ∷ rs) t (suc k) h = not_empty (suc r.region.last) rs (rest p r rs t) k (le_of_suc-le-suc h)
@@ -126,17 +126,14 @@ pub data Hits (l : List Row) (a : ℕ) (r : Row) : Type 0 where
 
 pub hits : (l : List Row) (a : ℕ) (r : Row) → scan l a ≡ hit r → Hits l a r
 unfolding scan
-hits [] a r e = let z : ◌≡◌ {A = ℕ} 0 1 = cc in absurd (omega arith)
+hits [] a r e = absurd cc
 hits (x ∷ l) a r e = go (holds x.region a) refl e (hits l a r)
   where
-    same : hit x ≡ hit r → x ≡ r
-    same e = cc
-
     later : Hits l a r → Hits (x ∷ l) a r
     later (at k h e f g) = at (suc k) (omega arith) e f g
 
     go : (b : Bool) → holds x.region a ≡ b → cond b (hit x) (scan l a) ≡ hit r → (scan l a ≡ hit r → Hits l a r) → Hits (x ∷ l) a r
-    go true w e rec = let q = same e in let p = row_ends x.region a w in at 0 (omega arith) q (rw q at p.0) (rw q at p.1)
+    go true w e rec = let q : x ≡ r = cc in let p = row_ends x.region a w in at 0 (omega arith) q (rw q at p.0) (rw q at p.1)
     go false w e rec = later (rec e)
 
 -- where no row holds the address, the scan misses

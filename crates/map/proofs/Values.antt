@@ -1,10 +1,12 @@
 -- The column 'Accepted values' is what the register alone accepts: one agreement for each row that the paper lists. Assumes nothing.
 use mathlib.Core.Path.{◌≡◌, refl, sym, ◌∙◌}
-use mathlib.Core.Bool.{Bool, true, false, not, cond}
+use mathlib.Core.Bool.{Bool, true, false, cond}
 use mathlib.Core.List.{List}
 use Prim.Native.Nat.{ℕ, ◌/◌, ◌%◌, ◌<◌, ◌≤◌, ◌-◌}
-use lib.Dec.{T, ltb, eqb, ltb→lt, nltb→le}
+use lib.Dec.{ltb, eqb}
 use borrow.Author.Tests.{lt-ltb, le-ltb}
+use Rattle.std.proofs.Common.{inl, inr}
+use Rattle.std.proofs.lemmas.Bool.{cases_lt}
 use Rattle.map.specs.declared.Setting.{Setting}
 use Rattle.map.specs.declared.Setting.TheVariants as S
 use Rattle.map.specs.declared.Register.TheVariants as R
@@ -56,13 +58,10 @@ card_agrees = ((λ c o v. refl), ((λ c o v. refl), ((kind 0 S.ClockEnable), ((�
 
 -- THE REGISTER SAYS WHAT THE TABLE ACCEPTS, at every address
 pub accepted_is : (a v : ℕ) → accepted_at a v ≡ allowed (register_of a) v
-accepted_is a v = by (ltb a 0x4000) (ltb→lt a 0x4000) (nltb→le a 0x4000)
-  where
-    by : (b : Bool) → (T b → a < 0x4000) → (T (not b) → 0x4000 ≤ a) → accepted_at a v ≡ allowed (register_of a) v
-    by true f g =
-        let h = f tt in
-        rw (channel_accepted a h v, channel_register a h) (scan_agrees channel_rows channel_agrees (a / 0x1000) (a % 0x1000) v)
-    by false f g = rw (in_card a (g tt)) (scan_agrees card_rows card_agrees (a / 0x1000) a v)
+accepted_is a v = elim (cases_lt a 0x4000) [
+  | inl h ↦ rw (channel_accepted a h v, channel_register a h) (scan_agrees channel_rows channel_agrees (a / 0x1000) (a % 0x1000) v)
+  | inr h ↦ rw (in_card a h) (scan_agrees card_rows card_agrees (a / 0x1000) a v)
+]
 
 -- ---- a word of a row of settings, by its offset in the region
 

@@ -1,10 +1,8 @@
 -- 'The map of words'.
-use Rattle.std.specs.Prelude.{Bool, true, false, ◌&&◌, cond, List, [], ◌∷◌, ◌++◌, map, ℕ, ◌+◌, ◌-◌, ◌*◌, ◌/◌, ◌%◌, leb, ltb, eqb, get_or}
+use Rattle.std.specs.Prelude.{Bool, true, false, ◌&&◌, cond, List, [], ◌∷◌, ◌++◌, map, ℕ, ◌+◌, ◌-◌, ◌*◌, ◌/◌, ◌%◌, leb, ltb, eqb, get_or, Option, Some, None}
 use Rattle.map.specs.declared.Access.{Access}
 use Rattle.map.specs.declared.Access.TheVariants.{ReadWrite, Read, Write}
 use Rattle.map.specs.declared.Region.{Region}
-use Rattle.map.specs.declared.Found.{Found}
-use Rattle.map.specs.declared.Found.TheVariants.{At, Nothing}
 use Rattle.map.specs.declared.Setting.{Setting}
 use Rattle.map.specs.declared.Setting.TheVariants as S
 use Rattle.map.specs.declared.Field.TheVariants as F
@@ -116,11 +114,11 @@ scan [] a = miss
 scan (r ∷ rs) a = cond (holds r.region a) (hit r) (scan rs a)
 
 -- the region of an address, or none
-abbrev pub found_in : Hit → Found
-found_in (hit r) = At r.region
-found_in miss = Nothing
+abbrev pub found_in : Hit → Option Region
+found_in (hit r) = Some r.region
+found_in miss = None
 
-abbrev pub region_of : ℕ → Found
+abbrev pub region_of : ℕ → Option Region
 region_of a = found_in (scan regions a)
 
 -- what its word is: 'any address not listed belongs to no region'
@@ -147,9 +145,9 @@ unfoldable pub row_of : ℕ → Row
 row_of k = get_or regions k no_row
 
 -- an address is in a region, and its word has a name: the same addresses (proofs/Listed)
-abbrev pub in_region : Found → Bool
-in_region (At r) = true
-in_region Nothing = false
+abbrev pub in_region : Option Region → Bool
+in_region (Some r) = true
+in_region None = false
 
 abbrev pub named : Register → Bool
 named (R.Setting s) = true

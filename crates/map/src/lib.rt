@@ -52,12 +52,6 @@ pub struct Region {
     pub access: Access,
 }
 
-#[derive(Clone, Copy)]
-pub enum Found {
-    At(Region),
-    Nothing,
-}
-
 // A setting other than a trigger slot: a word that keeps what is written to it.
 #[derive(Clone, Copy)]
 pub enum Setting {
@@ -89,7 +83,8 @@ pub enum Field {
     Left,
 }
 
-// What the word at an address is. Channels, levels and events are those of the address.
+// What the word at an address is. Channels, levels and events are those of the address. Unlisted is one of the kinds: an Option round them
+// would put a Some round each other arm of every match.
 #[derive(Clone, Copy)]
 pub enum Register {
     Setting(Setting),
@@ -110,17 +105,19 @@ pub enum Register {
 }
 
 // What the word at an address is.
+#[tactic(auto, using(crate::proofs::Blocks::channel_register, crate::proofs::Blocks::in_card))]
 pub fn register_at(address: u16) -> Register
     ensures { result ≡ register_of address }
 {
     if address < 0x4000 {
-        channel_register((address / 0x1000) as usize, address % 0x1000)
+        channel_register(usize::from(address / 0x1000), address % 0x1000)
     } else {
         card_register(address)
     }
 }
 
 // A value is among those that the map accepts at an address.
+#[tactic(auto, using(crate::proofs::Values::accepted_is))]
 pub fn accepts(address: u16, value: u16) -> bool
     ensures { result ≡ accepted_at address value }
 {
@@ -132,19 +129,16 @@ pub fn allows(register: Register, value: u16) -> bool
     ensures { result ≡ allowed register value }
 {
     match register {
-        Register::Setting(s) => setting_allows(s, value),
-        Register::Fixed(s) => setting_allows(s, value),
-        Register::Output(_) => true,
-        Register::Status(_, _) => false,
-        Register::Overflow(_) => true,
+        Register::Setting(s) | Register::Fixed(s) => setting_allows(s, value),
+        Register::Output(_) | Register::Overflow(_) | Register::Count(_) => true,
         Register::Slot(_) => value <= 0xFF,
-        Register::Image(_) => false,
         Register::Erase => value <= 1,
         Register::Manual => value <= 31,
-        Register::ActiveLevel => false,
-        Register::ActiveEvent => false,
-        Register::Count(_) => true,
-        Register::Unlisted => false,
+        Register::Status(_, _)
+        | Register::Image(_)
+        | Register::ActiveLevel
+        | Register::ActiveEvent
+        | Register::Unlisted => false,
     }
 }
 
@@ -152,21 +146,19 @@ fn setting_allows(setting: Setting, value: u16) -> bool
     ensures { result ≡ allowed_setting setting value }
 {
     match setting {
-        Setting::Value => true,
-        Setting::Step => true,
+        Setting::Value
+        | Setting::Step
+        | Setting::Scale
+        | Setting::Offset
+        | Setting::Delay
+        | Setting::Frequency
+        | Setting::Phase => true,
         Setting::RampMap => value <= 15,
-        Setting::ScaleMap => value <= 31,
-        Setting::Scale => true,
-        Setting::OffsetMap => value <= 31,
-        Setting::Offset => true,
-        Setting::Delay => true,
-        Setting::FrequencyMap => value <= 31,
-        Setting::Frequency => true,
-        Setting::PhaseMap => value <= 31,
-        Setting::Phase => true,
-        Setting::WaveformEnable => value <= 1,
+        Setting::ScaleMap | Setting::OffsetMap | Setting::FrequencyMap | Setting::PhaseMap => {
+            value <= 31
+        }
+        Setting::WaveformEnable | Setting::ClockEnable => value <= 1,
         Setting::WaveformMode => is_mode(value),
-        Setting::ClockEnable => value <= 1,
     }
 }
 
@@ -174,10 +166,7 @@ fn setting_allows(setting: Setting, value: u16) -> bool
 fn is_mode(value: u16) -> bool
     ensures { result ≡ is_mode value }
 {
-    if 5 < value {
-        return false;
-    }
-    value / 2 % 2 == 0
+    value <= 5 && value / 2 % 2 == 0
 }
 
 // The word of a table's point: V at an even offset, its time step at the next.
@@ -231,14 +220,14 @@ fn card_register(address: u16) -> Register
     ensures { result ≡ named_in (scan card_rows address) (address / 0x1000) address }
 {
     match address {
-        0x4000..=0x40FF => Register::Slot(((address - 0x4000) / 8) as usize),
+        0x4000..=0x40FF => Register::Slot(usize::from((address - 0x4000) / 8)),
         0x4100..=0x41FF => Register::Image(address - 0x4100),
         0x4200 => Register::Setting(Setting::ClockEnable),
         0x4201 => Register::Erase,
         0x4202 => Register::Manual,
         0x4210 => Register::ActiveLevel,
         0x4211 => Register::ActiveEvent,
-        0x4220..=0x423F => Register::Count((address - 0x4220) as usize),
+        0x4220..=0x423F => Register::Count(usize::from(address - 0x4220)),
         _ => Register::Unlisted,
     }
 }

@@ -1,4 +1,5 @@
 -- Point by point: what is reached, and the time it takes. Assumes nothing.
+use Rattle.std.specs.Prelude.{Some, None}
 use mathlib.Core.Path.{◌≡◌, refl, subst}
 use mathlib.Core.Bool.{Bool, true, false, not, ◌&&◌}
 use mathlib.Core.List.{List}
@@ -11,7 +12,6 @@ use lib.IntN.{pos}
 use lib.Ieee.{binary64, of_int}
 use Rattle.word.specs.Word.{lasting}
 use Rattle.word.specs.Table.{value_at, step_at, is_end, steps_before}
-use Rattle.panel.specs.declared.Plot.TheVariants.{Point, Nothing}
 use Rattle.panel.specs.Shown.{volts_of}
 use Rattle.panel.specs.Plots.{reached, since, plot_from}
 
@@ -40,11 +40,11 @@ module _ (words : List ℕ) (first : ℕ) where
       go (inr l) f = rw (f l)
 
   -- the two answers
-  pub no_more : (n : ℕ) → reached words first n ≡ false → Nothing ≡ plot_from words first n
+  pub no_more : (n : ℕ) → reached words first n ≡ false → None ≡ plot_from words first n
   unfolding plot_from
   no_more n e = rw e
 
   pub there : (n : ℕ) → reached words first n ≡ true
-      → Point (record { volts = volts_of (value_at words first n); micros = of_int binary64 (pos (since words first n)) }) ≡ plot_from words first n
+      → Some (record { volts = volts_of (value_at words first n); micros = of_int binary64 (pos (since words first n)) }) ≡ plot_from words first n
   unfolding plot_from
   there n e = rw e

@@ -9,7 +9,7 @@ ghost use Rattle.panel.specs.Plots.{plot_of, plot_from, PlotExact, PointExact};
 use map::{Field, Register, Setting};
 use word::{Micros, Samples};
 
-// A reading: volts or a factor, a time of either kind, a plain number, or nothing.
+// A reading: volts or a factor, a time of either kind, a plain number, or nothing, which document 01 asks for as a case beside the others.
 #[derive(Clone, Copy)]
 pub enum Reading {
     Volts(f64),
@@ -27,12 +27,6 @@ pub struct Plotted {
     pub micros: f64,
 }
 
-#[derive(Clone, Copy)]
-pub enum Plot {
-    Point(Plotted),
-    Nothing,
-}
-
 // What the word at an address shows: by the address alone and the word.
 pub fn show_word(address: u16, word: u16) -> Reading
     ensures { result ≡ reading_of address word }
@@ -44,53 +38,50 @@ pub fn show_word(address: u16, word: u16) -> Reading
 pub fn volts(word: u16) -> f64
     ensures { (result ≡ volts_of word) × Times result 32768 (signed_of word) 10 }
 {
-    word::signed(word) as f64 * 10.0 / 32768.0
+    f64::from(word::signed(word)) * 10.0 / 32768.0
 }
 
 // A scale factor: the signed word over 256, exactly.
 pub fn factor(word: u16) -> f64
     ensures { (result ≡ factor_of word) × Times result 256 (signed_of word) 1 }
 {
-    word::signed(word) as f64 / 256.0
+    f64::from(word::signed(word)) / 256.0
 }
 
 // A point of a table of a channel, where the lent words have the word of address a at place a.
 // Nothing where the channel, the table or the point is not there, or the ramp ends before it.
 #[tactic(auto, unfolding(crate::specs::Plots::plot_of))]
-pub fn plot_point(words: &[u16; 16960], channel: usize, table: usize, point: usize) -> Plot
+pub fn plot_point(
+    words: &[u16; 16960],
+    channel: usize,
+    table: usize,
+    point: usize,
+) -> Option<Plotted>
     ensures { (result ≡ plot_of words.now channel table point) × PlotExact words.now channel table point result }
 {
-    if 4 <= channel {
-        return Plot::Nothing;
-    }
-    if 16 <= table {
-        return Plot::Nothing;
-    }
-    if 64 <= point {
-        return Plot::Nothing;
+    if channel >= 4 || table >= 16 || point >= 64 {
+        return None;
     }
     plot_from(words, channel * 0x1000 + 128 * table, point)
 }
 
-// The same in the table whose first word is at `first`.
+// The same in the table whose first word is at `first`. By place, past the end of the words too.
 #[tactic(auto, unfolding(word::specs::Table::steps_before, crate::specs::Plots::reached))]
-fn plot_from(words: &[u16], first: usize, point: usize) -> Plot
+fn plot_from(words: &[u16], first: usize, point: usize) -> Option<Plotted>
     requires { (first ≤ 0x10000) × (point ≤ 63) }
     ensures { (result ≡ plot_from words.now first point) × PointExact words.now first point result }
 {
     let mut micros: u32 = 0;
-    let mut n: usize = 0;
-    while n < point {
+    for n in 0..point {
         let step = Samples(word::get(words, first + 2 * n + 1));
         if word::ends(n, step) {
-            return Plot::Nothing;
+            return None;
         }
-        micros = micros + step.micros().0;
-        n = n + 1;
+        micros += step.micros().0;
     }
-    Plot::Point(Plotted {
+    Some(Plotted {
         volts: volts(word::get(words, first + 2 * point)),
-        micros: micros as f64,
+        micros: f64::from(micros),
     })
 }
 
@@ -99,18 +90,17 @@ fn show(register: Register, word: u16) -> Reading
     ensures { result ≡ shown register word }
 {
     match register {
-        Register::Setting(s) => show_setting(s, word),
-        Register::Fixed(s) => show_setting(s, word),
+        Register::Setting(s) | Register::Fixed(s) => show_setting(s, word),
         Register::Output(_) => Reading::Volts(volts(word)),
         Register::Status(_, f) => show_status(f, word),
-        Register::Overflow(_) => Reading::Plain(word),
-        Register::Slot(_) => Reading::Plain(word),
-        Register::Image(_) => Reading::Plain(word),
-        Register::Erase => Reading::Plain(word),
-        Register::Manual => Reading::Plain(word),
-        Register::ActiveLevel => Reading::Plain(word),
-        Register::ActiveEvent => Reading::Plain(word),
-        Register::Count(_) => Reading::Plain(word),
+        Register::Overflow(_)
+        | Register::Slot(_)
+        | Register::Image(_)
+        | Register::Erase
+        | Register::Manual
+        | Register::ActiveLevel
+        | Register::ActiveEvent
+        | Register::Count(_) => Reading::Plain(word),
         Register::Unlisted => Reading::Nothing,
     }
 }
@@ -119,21 +109,20 @@ fn show_setting(setting: Setting, word: u16) -> Reading
     ensures { result ≡ shown_setting setting word }
 {
     match setting {
-        Setting::Value => Reading::Volts(volts(word)),
-        Setting::Step => Reading::Samples(Samples(word)),
-        Setting::RampMap => Reading::Plain(word),
-        Setting::ScaleMap => Reading::Plain(word),
+        Setting::Value | Setting::Offset => Reading::Volts(volts(word)),
         Setting::Scale => Reading::Factor(factor(word)),
-        Setting::OffsetMap => Reading::Plain(word),
-        Setting::Offset => Reading::Volts(volts(word)),
-        Setting::Delay => Reading::Micros(Micros(word as u32)),
-        Setting::FrequencyMap => Reading::Plain(word),
-        Setting::Frequency => Reading::Plain(word),
-        Setting::PhaseMap => Reading::Plain(word),
-        Setting::Phase => Reading::Plain(word),
-        Setting::WaveformEnable => Reading::Plain(word),
-        Setting::WaveformMode => Reading::Plain(word),
-        Setting::ClockEnable => Reading::Plain(word),
+        Setting::Step => Reading::Samples(Samples(word)),
+        Setting::Delay => Reading::Micros(Micros(u32::from(word))),
+        Setting::RampMap
+        | Setting::ScaleMap
+        | Setting::OffsetMap
+        | Setting::FrequencyMap
+        | Setting::Frequency
+        | Setting::PhaseMap
+        | Setting::Phase
+        | Setting::WaveformEnable
+        | Setting::WaveformMode
+        | Setting::ClockEnable => Reading::Plain(word),
     }
 }
 
@@ -141,10 +130,8 @@ fn show_status(field: Field, word: u16) -> Reading
     ensures { result ≡ shown_status field word }
 {
     match field {
-        Field::Table => Reading::Plain(word),
         Field::Scale => Reading::Factor(factor(word)),
         Field::Offset => Reading::Volts(volts(word)),
-        Field::Segment => Reading::Plain(word),
-        Field::Left => Reading::Plain(word),
+        Field::Table | Field::Segment | Field::Left => Reading::Plain(word),
     }
 }

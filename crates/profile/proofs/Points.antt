@@ -1,5 +1,6 @@
 -- Points up to the ramp's end decide (`by_points`): each of them is a sample, and the sums between two go one way, so where both are in range
 -- all between them are. Assumes nothing.
+use Rattle.std.specs.Prelude.{Option, Some, None, is_some, Result, Ok, Err}
 use mathlib.Core.Path.{◌≡◌, refl, ap, sym, ◌∙◌, subst}
 use mathlib.Core.Bool.{Bool, true, false, cond}
 use mathlib.Core.List.{List}
@@ -12,8 +13,6 @@ use Rattle.word.specs.Table.{value_at, step_at, is_end, steps_before}
 use Rattle.map.specs.Addresses.{table_at}
 use Rattle.sum.specs.declared.Edition.{Edition}
 use Rattle.sum.specs.declared.Edition.TheVariants.{First}
-use Rattle.sum.specs.declared.Sum.{Sum}
-use Rattle.sum.specs.declared.Sum.TheVariants.{Word, Overflow}
 use Rattle.sum.specs.declared.Side.{Side}
 use Rattle.sum.specs.declared.Side.TheVariants.{Below, Within, Above}
 use Rattle.sum.specs.Sample.{side_of, on_side, settled, total_of, sample_of}
@@ -28,12 +27,8 @@ use Rattle.course.specs.Points.{end_point, total, place_of, EndPoint, Samples}
 use Rattle.course.specs.Points as points
 use Rattle.course.specs.Follows.{table_for}
 use Rattle.course.proofs.Walk.{on, end_63}
-use Rattle.course.proofs.Points.{differ, the_end, steps_suc, at_end, not_end, samples}
+use Rattle.course.proofs.Points.{the_end, steps_suc, at_end, not_end, samples}
 use Rattle.profile.specs.declared.Break.{Break}
-use Rattle.profile.specs.declared.Out.{Out}
-use Rattle.profile.specs.declared.Out.TheVariants.{At, Nowhere}
-use Rattle.profile.specs.declared.Verdict.{Verdict}
-use Rattle.profile.specs.declared.Verdict.TheVariants.{Passes, Breaks}
 use Rattle.profile.specs.Profile.{keeps, point_sum, first_out, each_in, level_verdict}
 use Rattle.profile.specs.Points.{own_sum, out_from}
 use Rattle.profile.proofs.Search.{from_on, each_in_lem, in_each, first_out_lem}
@@ -99,16 +94,16 @@ module _ (w : List ℕ) (first : ℕ) where
 
   module _ (l : Loaded) where
     -- the sum of point n's own V, the same in every edition
-    abbrev own : ℕ → Sum
+    abbrev own : ℕ → Option ℕ
     own n = own_sum w first l n
 
     -- ---- what a walk over the points finds, from point n on
 
-    data Found (n : ℕ) : Out → Type 0 where
-      at : (m : ℕ) → n ≤ m → m ≤ e → overflows (own m) ≡ true → ((i : ℕ) → n ≤ i → i < m → overflows (own i) ≡ false) → Found n (At m)
-      nowhere : ((i : ℕ) → n ≤ i → i ≤ e → overflows (own i) ≡ false) → Found n Nowhere
+    data Found (n : ℕ) : Option ℕ → Type 0 where
+      at : (m : ℕ) → n ≤ m → m ≤ e → overflows (own m) ≡ true → ((i : ℕ) → n ≤ i → i < m → overflows (own i) ≡ false) → Found n (Some m)
+      nowhere : ((i : ℕ) → n ≤ i → i ≤ e → overflows (own i) ≡ false) → Found n None
 
-    one_more : (n : ℕ) (o : Out) → overflows (own n) ≡ false → Found (n + 1) o → Found n o
+    one_more : (n : ℕ) (o : Option ℕ) → overflows (own n) ≡ false → Found (n + 1) o → Found n o
     one_more n o f (at m a b p d) = at m (omega arith) b p (λ i j k. from_on (λ x. x < m → overflows (own x) ≡ false) n i j (λ h. f) (d i) k)
     one_more n o f (nowhere d) = nowhere (λ i j k. from_on (λ x. x ≤ e → overflows (own x) ≡ false) n i j (λ h. f) (d i) k)
 
@@ -116,7 +111,7 @@ module _ (w : List ℕ) (first : ℕ) where
     unfolding out_from
     walk zero n h g = go (overflows (own n)) refl
       where
-        go : (a : Bool) → overflows (own n) ≡ a → Found n (cond a (At n) (cond (is_end n (step_at w first n)) Nowhere Nowhere))
+        go : (a : Bool) → overflows (own n) ≡ a → Found n (cond a (Some n) (cond (is_end n (step_at w first n)) None None))
         go true p = at n (omega arith) g p (λ i j k. absurd (omega arith))
         go false p =
             rw (end_63 n (step_at w first n) (omega arith))
@@ -124,7 +119,7 @@ module _ (w : List ℕ) (first : ℕ) where
     walk (suc f) n h g = go (overflows (own n)) refl (is_end n (step_at w first n)) refl (walk f (n + 1) (omega arith))
       where
         go : (a : Bool) → overflows (own n) ≡ a → (b : Bool) → is_end n (step_at w first n) ≡ b → (n + 1 ≤ e → Found (n + 1) (out_from w first l (suc f) (n + 1)))
-            → Found n (cond a (At n) (cond b Nowhere (out_from w first l (suc f) (n + 1))))
+            → Found n (cond a (Some n) (cond b None (out_from w first l (suc f) (n + 1))))
         go true p b q ih = at n (omega arith) g p (λ i j k. absurd (omega arith))
         go false p true q ih = nowhere (λ i j k. let s : i ≡ n = omega (arith, at_end w first e end n g q) in rw s p)
         go false p false q ih = one_more n _ p (ih (omega (arith, not_end w first e end n g q)))
@@ -132,7 +127,7 @@ module _ (w : List ℕ) (first : ℕ) where
   -- ---- the samples of an edition
 
   module _ (ed : Edition) (l : Loaded) where
-    abbrev sums : ℕ → Sum
+    abbrev sums : ℕ → Option ℕ
     sums k = sample_at ed w first l (place_of w first k)
 
     -- the sample of a place at a point, with all of its segment left
@@ -181,38 +176,47 @@ module _ (w : List ℕ) (first : ℕ) where
 
 -- ---- a loop over the points: what is left from point n on is the whole
 
+-- a sample is none exactly where its sum overflows
+missed : (r : Option ℕ) → is_some r ≡ false → overflows r ≡ true
+missed None e = refl
+missed (Some x) e = sym e
+
+given : (r : Option ℕ) → is_some r ≡ true → overflows r ≡ false
+given None e = sym e
+given (Some x) e = refl
+
 module _ (w : List ℕ) (first : ℕ) (l : Loaded) (n : ℕ) (h : n < 64) where
   left_one : 64 - n ≡ suc (64 - (n + 1))
   left_one = omega arith
 
   -- V is read, and its sample made
-  module _ {v : ℕ} {r : Sum} (read : v ≡ value_at w first n) (made : r ≡ sample_of First l.scale v v 0 0 l.offset) where
+  module _ {v : ℕ} {r : Option ℕ} (read : v ≡ value_at w first n) (made : r ≡ sample_of First l.scale v v 0 0 l.offset) where
     own_is : own_sum w first l n ≡ r
     own_is = rw (← read) (sym made)
 
-    pub here : r ≡ Overflow → out_from w first l (64 - n) n ≡ At n
+    pub here : is_some r ≡ false → out_from w first l (64 - n) n ≡ Some n
     unfolding out_from
-    here e = rw (left_one, own_is, e)
+    here e = rw (left_one, own_is, missed r e)
 
     -- and Δt, which ends the ramp or not
-    module _ {x d : ℕ} {b : Bool} (e : r ≡ Word x) (step : d ≡ step_at w first n) (ends : b ≡ is_end n d) where
+    module _ {d : ℕ} {b : Bool} (e : is_some r ≡ true) (step : d ≡ step_at w first n) (ends : b ≡ is_end n d) where
       end_is : is_end n (step_at w first n) ≡ b
       end_is = rw (← step) (sym ends)
 
-      pub end_here : b ≡ true → out_from w first l (64 - n) n ≡ Nowhere
+      pub end_here : b ≡ true → out_from w first l (64 - n) n ≡ None
       unfolding out_from
-      end_here f = rw (left_one, own_is, e, end_is, f)
+      end_here f = rw (left_one, own_is, given r e, end_is, f)
 
       pub not_here : b ≡ false → out_from w first l (64 - n) n ≡ out_from w first l (64 - (n + 1)) (n + 1)
       unfolding out_from
-      not_here f = rw (left_one, own_is, e, end_is, f)
+      not_here f = rw (left_one, own_is, given r e, end_is, f)
 
 -- ---- the verdict on one ramp
 
 -- what a walk over the points of its table makes of it
-abbrev pub told : ℕ → ℕ → ℕ → Out → Verdict
-told c level table Nowhere = Passes
-told c level table (At n) = Breaks (record { channel = c; level = level; table = table; point = n })
+abbrev pub told : ℕ → ℕ → ℕ → Option ℕ → Result Unit Break
+told c level table None = Ok tt
+told c level table (Some n) = Err (record { channel = c; level = level; table = table; point = n })
 
 module _ (ed : Edition) (s : List ℕ) (c level : ℕ) where
   abbrev start : ℕ
@@ -227,9 +231,9 @@ module _ (ed : Edition) (s : List ℕ) (c level : ℕ) where
     where
       go : (b : Bool) → each_in (sums s start ed ld) (total s start + 1) ≡ b → b ≡ false
       go false q = refl
-      go true q = absurd (differ (overflows (sums s start ed ld k)) o (in_each (sums s start ed ld) (total s start + 1) q k (omega arith)))
+      go true q = absurd (cc (o, in_each (sums s start ed ld) (total s start + 1) q k (omega arith)))
 
-  found_told : (o : Out) → Found s start ld 0 o → level_verdict ed s c level ≡ told c level ld.table o
+  found_told : (o : Option ℕ) → Found s start ld 0 o → level_verdict ed s c level ≡ told c level ld.table o
   unfolding level_verdict keeps
   found_told _ (at m a b p d) =
       let k : overflows (sums s start ed ld (steps_before s start m)) ≡ true = ap overflows (own_sum_lem s start ed ld m b) ∙ p in
@@ -245,7 +249,7 @@ module _ (ed : Edition) (s : List ℕ) (c level : ℕ) where
   by_points = found_told _ (walk s start ld 63 0 (omega arith) (omega arith))
 
   -- of a call: what the maps give is read, and its points are walked over
-  pub walked : {x : Loaded} {o : Out} → x ≡ ld → o ≡ out_from s (table_at c x.table) x 64 0 → (r : Out) → o ≡ r → told c level x.table r ≡ level_verdict ed s c level
+  pub walked : {x : Loaded} {o : Option ℕ} → x ≡ ld → o ≡ out_from s (table_at c x.table) x 64 0 → (r : Option ℕ) → o ≡ r → told c level x.table r ≡ level_verdict ed s c level
   walked e f r g =
       ap (λ (x : Loaded). told c level x.table r) e
       ∙ ap (told c level ld.table) (sym g ∙ f ∙ ap (λ (x : Loaded). out_from s (table_at c x.table) x 64 0) e)
@@ -259,7 +263,7 @@ module _ (ed : Edition) (s : List ℕ) (c level : ℕ) where
     pub out : overflows (point_sum ed s c level b.point) ≡ true
     pub earlier : (n : ℕ) → n < b.point → overflows (point_sum ed s c level n) ≡ false
 
-  found_broken : (o : Out) → Found s start ld 0 o → (b : Break) → told c level ld.table o ≡ Breaks b → Broken b
+  found_broken : (o : Option ℕ) → Found s start ld 0 o → (b : Break) → told c level ld.table o ≡ Err b → Broken b
   found_broken _ (at m x y p d) b q =
       let e : ◌≡◌ {A = Break} (record { channel = c; level = level; table = ld.table; point = m }) b = cc in
       subst Broken e (record {
@@ -270,5 +274,5 @@ module _ (ed : Edition) (s : List ℕ) (c level : ℕ) where
       })
   found_broken _ (nowhere d) b q = let z : ◌≡◌ {A = ℕ} 0 1 = cc in absurd (omega arith)
 
-  pub broken : (b : Break) → level_verdict ed s c level ≡ Breaks b → Broken b
+  pub broken : (b : Break) → level_verdict ed s c level ≡ Err b → Broken b
   broken b e = found_broken _ (walk s start ld 63 0 (omega arith) (omega arith)) b (sym by_points ∙ e)

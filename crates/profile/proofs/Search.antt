@@ -1,16 +1,14 @@
 -- What the searches find: samples that are each in range, the first point that is not, and the first of some verdicts that names a ramp.
 -- Assumes nothing.
+use Rattle.std.specs.Prelude.{Option, Result, Ok, Err}
 use mathlib.Core.Path.{◌≡◌, refl, ap, sym, ◌∙◌}
 use mathlib.Core.Bool.{Bool, true, false, not, ◌&&◌}
 use Prim.Native.Nat.{ℕ, zero, suc, ◌+◌, ◌-◌, ◌≤◌, ◌<◌}
 use native.Mathlib.Omega.{arith}
 use lib.Dec.{ltb}
 use borrow.Author.Tests.{ltb-true, ltb-false}
-use Rattle.sum.specs.declared.Sum.{Sum}
 use Rattle.channel.specs.Signal.{overflows}
 use Rattle.profile.specs.declared.Break.{Break}
-use Rattle.profile.specs.declared.Verdict.{Verdict}
-use Rattle.profile.specs.declared.Verdict.TheVariants.{Passes, Breaks}
 use Rattle.profile.specs.Profile.{each_in, first_out, or_else, first_from}
 
 -- what is so of n, and from n + 1 on, is so from n on
@@ -28,7 +26,7 @@ and_not true false e = (refl, refl)
 and_not true true e = let z : ◌≡◌ {A = ℕ} 0 1 = cc in absurd (omega arith)
 and_not false b e = let z : ◌≡◌ {A = ℕ} 0 1 = cc in absurd (omega arith)
 
-module _ (sums : ℕ → Sum) where
+module _ (sums : ℕ → Option ℕ) where
   pub each_in_lem : (n : ℕ) → ((k : ℕ) → k < n → overflows (sums k) ≡ false) → each_in sums n ≡ true
   unfolding each_in
   each_in_lem zero h = refl
@@ -56,62 +54,62 @@ module _ (sums : ℕ → Sum) where
 -- ---- verdicts
 
 -- verdict k names a ramp, and none before it from i on does
-pub record Named (f : ℕ → Verdict) (i n : ℕ) (b : Break) : Type 0 where
+pub record Named (f : ℕ → Result Unit Break) (i n : ℕ) (b : Break) : Type 0 where
   pub place : ℕ
   pub from : i ≤ place
   pub below : place < i + n
-  pub names : f place ≡ Breaks b
-  pub earlier : (k : ℕ) → i ≤ k → k < place → f k ≡ Passes
+  pub names : f place ≡ Err b
+  pub earlier : (k : ℕ) → i ≤ k → k < place → f k ≡ Ok tt
 
-module _ (f : ℕ → Verdict) where
-  pub all_pass : (i n : ℕ) → ((k : ℕ) → i ≤ k → k < i + n → f k ≡ Passes) → first_from f i n ≡ Passes
+module _ (f : ℕ → Result Unit Break) where
+  pub all_pass : (i n : ℕ) → ((k : ℕ) → i ≤ k → k < i + n → f k ≡ Ok tt) → first_from f i n ≡ Ok tt
   unfolding first_from
   all_pass i zero h = refl
   all_pass i (suc n) h = rw (h i (omega arith) (omega arith)) (all_pass (i + 1) n (λ k l g. h k (omega arith) (omega arith)))
 
-  pub each_passes : (i n : ℕ) → first_from f i n ≡ Passes → (k : ℕ) → i ≤ k → k < i + n → f k ≡ Passes
+  pub each_passes : (i n : ℕ) → first_from f i n ≡ Ok tt → (k : ℕ) → i ≤ k → k < i + n → f k ≡ Ok tt
   unfolding first_from
   each_passes i zero e k l g = absurd (omega arith)
   each_passes i (suc n) e k l g = go (f i) refl e (λ u h. each_passes (i + 1) n u k h (omega arith))
     where
-      go : (v : Verdict) → f i ≡ v → or_else v (first_from f (i + 1) n) ≡ Passes → (first_from f (i + 1) n ≡ Passes → i + 1 ≤ k → f k ≡ Passes) → f k ≡ Passes
-      go Passes p u ih = from_on (λ j. f j ≡ Passes) i k l p (ih u)
-      go (Breaks b) p u ih = let z : ◌≡◌ {A = ℕ} 0 1 = cc in absurd (omega arith)
+      go : (v : Result Unit Break) → f i ≡ v → or_else v (first_from f (i + 1) n) ≡ Ok tt → (first_from f (i + 1) n ≡ Ok tt → i + 1 ≤ k → f k ≡ Ok tt) → f k ≡ Ok tt
+      go (Ok tt) p u ih = from_on (λ j. f j ≡ Ok tt) i k l p (ih u)
+      go (Err b) p u ih = let z : ◌≡◌ {A = ℕ} 0 1 = cc in absurd (omega arith)
 
-  pub first_named : (i n : ℕ) (b : Break) → first_from f i n ≡ Breaks b → Named f i n b
+  pub first_named : (i n : ℕ) (b : Break) → first_from f i n ≡ Err b → Named f i n b
   unfolding first_from
   first_named i zero b e = let z : ◌≡◌ {A = ℕ} 0 1 = cc in absurd (omega arith)
   first_named i (suc n) b e = go (f i) refl e (first_named (i + 1) n b)
     where
-      later : f i ≡ Passes → Named f (i + 1) n b → Named f i (suc n) b
+      later : f i ≡ Ok tt → Named f (i + 1) n b → Named f i (suc n) b
       later p y =
           record {
             place = y.place;
             from = omega (arith, y.from);
             below = omega (arith, y.below);
             names = y.names;
-            earlier = λ k l g. from_on (λ j. f j ≡ Passes) i k l p (λ h. y.earlier k h g);
+            earlier = λ k l g. from_on (λ j. f j ≡ Ok tt) i k l p (λ h. y.earlier k h g);
           }
 
-      go : (v : Verdict) → f i ≡ v → or_else v (first_from f (i + 1) n) ≡ Breaks b → (first_from f (i + 1) n ≡ Breaks b → Named f (i + 1) n b) → Named f i (suc n) b
-      go (Breaks d) p u ih = record { place = i; from = omega arith; below = omega arith; names = p ∙ u; earlier = λ k l g. absurd (omega arith) }
-      go Passes p u ih = later p (ih u)
+      go : (v : Result Unit Break) → f i ≡ v → or_else v (first_from f (i + 1) n) ≡ Err b → (first_from f (i + 1) n ≡ Err b → Named f (i + 1) n b) → Named f i (suc n) b
+      go (Err d) p u ih = record { place = i; from = omega arith; below = omega arith; names = p ∙ u; earlier = λ k l g. absurd (omega arith) }
+      go (Ok tt) p u ih = later p (ih u)
 
 -- ---- a loop over n verdicts: what is left to look at from i on, x, is the whole
 
-module _ (f : ℕ → Verdict) (i n : ℕ) {x : Verdict} (e : x ≡ first_from f i (n - i)) where
+module _ (f : ℕ → Result Unit Break) (i n : ℕ) {x : Result Unit Break} (e : x ≡ first_from f i (n - i)) where
   next : i < n → x ≡ or_else (f i) (first_from f (i + 1) (n - (i + 1)))
   unfolding first_from
   next h = let d : n - i ≡ suc (n - (i + 1)) = omega arith in e ∙ rw d
 
   -- the verdict r passes, or names a ramp
-  pub goes_on : {r : Verdict} → i < n → r ≡ f i → r ≡ Passes → x ≡ first_from f (i + 1) (n - (i + 1))
-  goes_on h p q = next h ∙ ap (λ (v : Verdict). or_else v (first_from f (i + 1) (n - (i + 1)))) (sym p ∙ q)
+  pub goes_on : {r : Result Unit Break} → i < n → r ≡ f i → r ≡ Ok tt → x ≡ first_from f (i + 1) (n - (i + 1))
+  goes_on h p q = next h ∙ ap (λ (v : Result Unit Break). or_else v (first_from f (i + 1) (n - (i + 1)))) (sym p ∙ q)
 
-  pub stops : {r : Verdict} {b : Break} → i < n → r ≡ f i → r ≡ Breaks b → Breaks b ≡ x
-  stops h p q = sym (next h ∙ ap (λ (v : Verdict). or_else v (first_from f (i + 1) (n - (i + 1)))) (sym p ∙ q))
+  pub stops : {r : Result Unit Break} {b : Break} → i < n → r ≡ f i → r ≡ Err b → Err b ≡ x
+  stops h p q = sym (next h ∙ ap (λ (v : Result Unit Break). or_else v (first_from f (i + 1) (n - (i + 1)))) (sym p ∙ q))
 
   -- none is left
-  pub all_passed : n ≤ i → Passes ≡ x
+  pub all_passed : n ≤ i → (Ok tt) ≡ x
   unfolding first_from
   all_passed h = let d : n - i ≡ 0 = omega arith in sym (e ∙ rw d)

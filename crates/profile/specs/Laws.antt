@@ -1,16 +1,14 @@
 -- The verdict in the request's words: 'passes a bench exactly when, for every channel and level, every sample of its ramp has a sum in
 -- range. Otherwise it names the first channel, then level, that breaks this.'
-use Rattle.std.specs.Prelude.{◌≡◌, true, false, List, ℕ, ◌≤◌, ◌<◌}
+use Rattle.std.specs.Prelude.{◌≡◌, true, false, List, ℕ, ◌≤◌, ◌<◌, Some, Ok, Err}
 use Rattle.word.specs.Table.{steps_before}
 use Rattle.sum.specs.declared.Edition.{Edition}
-use Rattle.sum.specs.declared.Sum.TheVariants.{Word}
 use Rattle.channel.specs.Signal.{overflows}
 use Rattle.channel.specs.Channel.{loaded_for}
 use Rattle.course.specs.Points.{end_point}
 use Rattle.course.specs.Follows.{table_for, total_for, sum_for}
 use Rattle.course.specs.Outputs.{latest}
 use Rattle.profile.specs.declared.Break.{Break}
-use Rattle.profile.specs.declared.Verdict.TheVariants.{Passes, Breaks}
 use Rattle.profile.specs.Profile.{point_sum, verdict_of}
 
 -- 'every sample of its ramp has a sum in range', for channel c and a level
@@ -36,9 +34,9 @@ pub record FirstBreak (edition : Edition) (s : List ℕ) (b : Break) : Type 0 wh
 
 -- of any settings, in an edition
 pub record VerdictRight (edition : Edition) (s : List ℕ) : Type 0 where
-  pub passes : verdict_of edition s ≡ Passes → AllInRange edition s
-  pub passes_only : AllInRange edition s → verdict_of edition s ≡ Passes
-  pub breaks : (b : Break) → verdict_of edition s ≡ Breaks b → FirstBreak edition s b
+  pub passes : verdict_of edition s ≡ Ok tt → AllInRange edition s
+  pub passes_only : AllInRange edition s → verdict_of edition s ≡ Ok tt
+  pub breaks : (b : Break) → verdict_of edition s ≡ Err b → FirstBreak edition s b
 
 -- Document 02, Six: 'Five holds in both', and with one verdict
 unfoldable pub OneVerdict : Type 0
@@ -49,4 +47,4 @@ OneVerdict = (edition other : Edition) (s : List ℕ) → verdict_of edition s �
 unfoldable pub NothingHeld : Type 0
 NothingHeld =
     (edition : Edition) (s : List ℕ) (c level : ℕ) → InRange edition s c level → (before k : ℕ) → k ≤ total_for s c level
-    → sum_for edition s c level k ≡ Word (latest (sum_for edition s c level) before k)
+    → sum_for edition s c level k ≡ Some (latest (sum_for edition s c level) before k)

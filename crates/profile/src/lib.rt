@@ -10,15 +10,8 @@ ghost use Rattle.profile.specs.Profile.{level_verdict, channel_verdict, verdict_
 ghost use Rattle.profile.specs.Points.{out_from};
 
 use channel::Loaded;
-use sum::{Edition, Sum};
+use sum::Edition;
 use word::Samples;
-
-// A bench passes, or the first ramp that breaks the profile is named.
-#[derive(Clone, Copy)]
-pub enum Verdict {
-    Passes,
-    Breaks(Break),
-}
 
 // A ramp that breaks it: channel and level, its table, and the first of its points whose sum is out of range.
 #[derive(Clone, Copy)]
@@ -29,66 +22,47 @@ pub struct Break {
     pub point: u16,
 }
 
-// The first point of a table whose sum is out of range, if any.
-#[derive(Clone, Copy)]
-pub enum Out {
-    At(u16),
-    Nowhere,
-}
-
 // The verdict on a bench, whichever edition its card is: the first channel, then level, that breaks the profile, if any. It is on ramp sums
 // alone: a sine's product that does not fit is none, and a ramp that was loaded before, under other settings, is not looked at.
 #[tactic(auto, unfolding(crate::specs::Profile::verdict_of))]
-pub fn check(settings: &[u16; 16960]) -> Verdict
+pub fn check(settings: &[u16; 16960]) -> Result<(), Break>
     ensures { (edition : Edition) → result ≡ verdict_of edition settings.now }
 {
-    let mut c: u16 = 0;
-    while c < 4 {
-        let v = channel_verdict(settings, c);
-        c = c + 1;
-        match v {
-            Verdict::Passes => {}
-            Verdict::Breaks(b) => return Verdict::Breaks(b),
-        }
+    for c in 0..4 {
+        channel_verdict(settings, c)?;
     }
-    Verdict::Passes
+    Ok(())
 }
 
 // The verdict on channel c: its first level that breaks the profile, if any.
 #[tactic(auto, unfolding(crate::specs::Profile::channel_verdict))]
-fn channel_verdict(settings: &[u16], c: u16) -> Verdict
+fn channel_verdict(settings: &[u16], c: u16) -> Result<(), Break>
     ensures { (edition : Edition) → result ≡ channel_verdict edition settings.now c }
 {
-    let mut level: u16 = 0;
-    while level < 32 {
-        let v = level_verdict(settings, c, level);
-        level = level + 1;
-        match v {
-            Verdict::Passes => {}
-            Verdict::Breaks(b) => return Verdict::Breaks(b),
-        }
+    for level in 0..32 {
+        level_verdict(settings, c, level)?;
     }
-    Verdict::Passes
+    Ok(())
 }
 
 // The verdict on channel c's ramp for a level.
-fn level_verdict(settings: &[u16], c: u16, level: u16) -> Verdict
+fn level_verdict(settings: &[u16], c: u16, level: u16) -> Result<(), Break>
     ensures { (edition : Edition) → result ≡ level_verdict edition settings.now c level }
 {
     let loaded = channel::settings_for(settings, c, level);
     match first_out(settings, c, loaded) {
-        Out::Nowhere => Verdict::Passes,
-        Out::At(point) => Verdict::Breaks(Break {
+        None => Ok(()),
+        Some(point) => Err(Break {
             channel: c,
-            level: level,
+            level,
             table: loaded.table,
-            point: point,
+            point,
         }),
     }
 }
 
 // The sum of a point's own V, which is the same in both editions.
-fn own_sum(loaded: Loaded, v: u16) -> Sum
+fn own_sum(loaded: Loaded, v: u16) -> Option<u16>
     ensures { result ≡ sample_of First loaded.scale v v 0 0 loaded.offset }
 {
     sum::sample(
@@ -102,24 +76,19 @@ fn own_sum(loaded: Loaded, v: u16) -> Sum
     )
 }
 
-// The first point up to the ramp's end whose sum is out of range, if any.
-fn first_out(settings: &[u16], c: u16, loaded: Loaded) -> Out
+// The first point up to the ramp's end whose sum is out of range, if any. By place, past the end of the words too.
+fn first_out(settings: &[u16], c: u16, loaded: Loaded) -> Option<u16>
     ensures { result ≡ out_from settings.now (table_at c loaded.table) loaded 64 0 }
 {
-    let first = (c as usize) * 0x1000 + 128 * (loaded.table as usize);
-    let mut n: u16 = 0;
-    while n < 64 {
-        let at = first + 2 * (n as usize);
-        let v = word::get(settings, at);
-        let point = n;
-        n = n + 1;
-        match own_sum(loaded, v) {
-            Sum::Word(_) => {}
-            Sum::Overflow => return Out::At(point),
+    let first = usize::from(c) * 0x1000 + 128 * usize::from(loaded.table);
+    for n in 0..64 {
+        let at = first + 2 * usize::from(n);
+        if own_sum(loaded, word::get(settings, at)).is_none() {
+            return Some(n);
         }
-        if word::ends(point as usize, Samples(word::get(settings, at + 1))) {
-            return Out::Nowhere;
+        if word::ends(usize::from(n), Samples(word::get(settings, at + 1))) {
+            return None;
         }
     }
-    Out::Nowhere
+    None
 }

@@ -1,14 +1,18 @@
 -- A search of rows that are in order: what a look at one of them tells, and what the rows left come to. Assumes nothing.
-use mathlib.Core.Path.{◌≡◌, subst}
-use mathlib.Core.List.{map}
-use mathlib.Core.Bool.{Bool, true, false, not}
-use Prim.Native.Nat.{ℕ, ◌+◌, ◌-◌, ◌/◌, ◌^◌, ◌≤◌, ◌<◌}
-use native.Mathlib.Nat.{le_trans, lt_of_lt_of_le}
+use mathlib.Core.Path.{◌≡◌, subst, ◌∙◌}
+use mathlib.Core.List.{List, map}
+use mathlib.Core.Bool.{Bool, true, false}
+use Rattle.std.proofs.Common.{inl, inr}
+use Prim.Native.Nat.{ℕ, ◌+◌, ◌≤◌, ◌<◌}
 use native.Mathlib.Omega.{arith}
-use lib.Dec.{T, ltb, ltb→lt, nltb→le, lit≤}
+use lib.Dec.{ltb}
 use lib.ListN.{length, get_or, get_or-map}
+use Rattle.std.specs.List.Sorted.{IsNonDecreasingBy, IsPartitionedBy, IsPartitionPoint}
+use Rattle.std.proofs.lemmas.Bool.{cases_lt, ltb-true, ltb-false}
+use Rattle.std.proofs.lemmas.List.{length-map}
+use Rattle.std.proofs.lemmas.List.Sorted.{IsNonDecreasingBy-from_default, IsPartitionedBy-ltb}
 use Rattle.map.specs.Map.{Row, hit, miss, no_row, scan}
-use Rattle.map.proofs.Rows.{found, missed, before_later, past_earlier}
+use Rattle.map.proofs.Rows.{found, missed, not_empty, before_later, past_earlier}
 use Rattle.map.proofs.Order.{short_at}
 use Rattle.regions.specs.Once.{once}
 use Rattle.regions.specs.declared.Row as code
@@ -20,8 +24,11 @@ use Rattle.regions.proofs.Once.{once_ordered, once_short, once_count}
 abbrev coded : Row → code.Row
 coded r = record { 0 = r.region.first; 1 = r.region.last; 2 = r.region.access }
 
+abbrev pub table : List code.Row
+table = map coded once
+
 abbrev pub code_row : ℕ → code.Row
-code_row k = get_or (map coded once) k (coded no_row)
+code_row k = get_or table k (coded no_row)
 
 abbrev pub row : ℕ → Row
 row k = get_or once k no_row
@@ -45,46 +52,61 @@ module _ (m o : ℕ) (h : m < 28) where
   pub rules_out_later : o < (code_row m).0 → Before o m
   rules_out_later f j g i = before_later 0 once once_ordered m (counted m h) o (subst (λ (r : code.Row). o < r.0) (known m) f) j g (counted j i)
 
-  pub rules_out_earlier : (code_row m).1 < o → Past o (m + 1)
-  rules_out_earlier f j g = past_earlier 0 once once_ordered m (counted m h) o (subst (λ (r : code.Row). r.1 < o) (known m) f) j (omega arith)
-
   pub holds_it : (code_row m).0 ≤ o → o ≤ (code_row m).1 → scan once o ≡ hit (row m)
   holds_it f g = found 0 once once_ordered m o (counted m h) (subst (λ (r : code.Row). r.0 ≤ o) (known m) f) (subst (λ (r : code.Row). o ≤ r.1) (known m) g)
 
-  -- the row that holds the offset, raised to a base: its addresses have 16 bits
-  pub fits : (b : ℕ) → b < 0x4000 → (code_row m).0 ≤ o → o ≤ (code_row m).1 → (b + (code_row m).0 < 65536) × (b + (code_row m).1 < 65536)
-  fits b g f e = let s = below in (omega arith, omega arith)
-    where
-      below : (code_row m).1 < 0x4240
-      below = rw (known m) (short_at 0x4240 once once_short m (counted m h))
-
--- ---- a turn, and the end
-
--- what a turn leaves of the rows from k to `end`
-abbrev pub Turn : ℕ → ℕ → ℕ → ℕ → ℕ → Type 0
-Turn o k end k' end' = (k' ≤ end') × (end' ≤ 28) × Past o k' × Before o end' × (end' - k' < end - k)
-
-module _ (o k end m : ℕ) (h : k ≤ m) (g : m < end) (i : end ≤ 28) where
-  pub turn_lower : Past o k → Before o m → Turn o k end k m
-  turn_lower p b = (h, omega arith, p, b, omega arith)
-
-  pub turn_upper : Past o (m + 1) → Before o end → Turn o k end (m + 1) end
-  turn_upper p b = (omega arith, i, p, b, omega arith)
-
--- the row in the middle is one of those left
-pub middle : (k end : ℕ) → k < end → (k ≤ (k + end) / 2) × ((k + end) / 2 < end)
-middle k end h = (omega arith, omega arith)
-
-pub small : (k end : ℕ) → k ≤ end → end ≤ 28 → k + end < 2 ^ 64
-small k end h g = let i : k + end < 57 = omega arith in lt_of_lt_of_le i (lit≤ tt)
+-- a row raised to a base: its addresses have 16 bits
+pub fits : (k : ℕ) → k < 28 → (b : ℕ) → b < 0x4000 → (b + (code_row k).0 < 65536) × (b + (code_row k).1 < 65536)
+fits k h b g =
+    let s = short_at 0x4240 once once_short k (counted k h) in
+    let n = not_empty 0 once once_ordered k (counted k h) in
+    rw known (omega arith, omega arith)
 
 -- none is left
-pub none_left : (o k end : ℕ) → end ≤ k → Past o k → Before o end → scan once o ≡ miss
-none_left o k end e p b = missed once o none
+none_left : (o k : ℕ) → Past o k → Before o k → scan once o ≡ miss
+none_left o k p b = missed once o none
   where
     none : (j : ℕ) → j < length once → (row j).region.first ≤ o → o ≤ (row j).region.last → ⊥
-    none j h f g = by (ltb j k) (ltb→lt j k) (nltb→le j k)
-      where
-        by : (t : Bool) → (T t → j < k) → (T (not t) → k ≤ j) → ⊥
-        by true u v = let x = p j (u tt) in absurd (omega arith)
-        by false u v = let x = b j (le_trans e (v tt)) (rw once_count at h) in absurd (omega arith)
+    none j h f g = elim (cases_lt j k) [
+      | inl u ↦ let x = p j u in omega arith
+      | inr u ↦ let x = b j u (rw once_count at h) in omega arith
+    ]
+
+-- ---- the place in the order
+
+-- the rows that end before the offset are the first ones
+row_ends : (i j : ℕ) → i ≤ j → j < 28 → (row i).region.last ≤ (row j).region.last
+row_ends i j g h =
+    let e : (row i).region.last < (row j).region.last + 1 = past_earlier 0 once once_ordered j (counted j h) ((row j).region.last + 1) (omega arith) i g in
+    omega arith
+
+table_count : length table ≡ 28
+table_count = length-map once coded ∙ once_count
+
+rising : IsNonDecreasingBy (λ (r : code.Row). r.1) table
+rising = IsNonDecreasingBy-from_default (λ (r : code.Row). r.1) table (coded no_row) (λ i j g h. rw (known i, known j) (row_ends i j g (rw table_count at h)))
+
+abbrev pub ends_before : ℕ → code.Row → Bool
+ends_before o r = ltb r.1 o
+
+pub parted : (o : ℕ) → IsPartitionedBy (ends_before o) table
+parted o = IsPartitionedBy-ltb (λ (r : code.Row). r.1) table o rising
+
+-- row k is the first that does not end before the offset; there is none if k is 28
+abbrev pub Point : ℕ → ℕ → Type 0
+Point o k = IsPartitionPoint (λ (r : code.Row). ends_before o r ≡ true) (λ (r : code.Row). ends_before o r ≡ false) table k
+
+module _ (o k : ℕ) (p : Point o k) where
+  -- every row before row k ends before the offset, and row k does not
+  earlier_past : k ≤ 28 → Past o k
+  earlier_past h j g = subst (λ (r : code.Row). r.1 < o) (known j) (ltb-true _ _ (p.0 j (coded no_row) (omega arith) g))
+
+  pub ends_past : k < 28 → o ≤ (code_row k).1
+  ends_past h = ltb-false _ _ (p.1 k (coded no_row) (omega arith) (rw table_count h))
+
+  -- so an offset before row k is in no row, and nor is one past all rows
+  pub in_no_row : k < 28 → o < (code_row k).0 → scan once o ≡ miss
+  in_no_row h f = none_left o k (earlier_past (omega arith)) (rules_out_later k o h f)
+
+  pub past_all : 28 ≤ k → k ≤ 28 → scan once o ≡ miss
+  past_all g h = none_left o k (earlier_past h) (λ j i l. absurd (omega arith))

@@ -5,10 +5,12 @@ ghost use Rattle.std.specs.Prelude.{◌≡◌, ◌+◌, ◌<◌};
 ghost use Rattle.map.specs.Map.{region_of, scan, found_in};
 ghost use Rattle.regions.specs.Once.{once, base_of, raised_to};
 
-use map::{Access, Found, Region};
+use map::Access::{Read as R, ReadWrite as RW, Write as W};
+use map::{Access, Region};
 
 // The region that an address belongs to: the row that holds its offset from its base, raised to that base.
-pub fn region_of(address: u16) -> Found
+#[tactic(auto, using(crate::proofs::Once::base_within, crate::proofs::Once::same_regions))]
+pub fn region_of(address: u16) -> Option<Region>
     ensures { result ≡ region_of address }
 {
     let base = base_of(address);
@@ -26,29 +28,22 @@ fn base_of(address: u16) -> u16
     }
 }
 
-// The row that holds an offset, raised to a base. The rows are in order: one that does not hold it rules out all before, or all after.
-// The first look is at row 0, the ramp tables, where most words go; from then on it is at the row in the middle.
-fn find(base: u16, offset: u16) -> Found
+// The row that holds an offset, raised to a base. The rows are in order: it can only be the first that does not end before the offset.
+// The first look is at row 0, the ramp tables, where most words go.
+fn find(base: u16, offset: u16) -> Option<Region>
     requires { base < 0x4000 }
     ensures { result ≡ raised_to base (found_in (scan once offset)) }
 {
-    let rows = REGIONS;
-    let mut k: usize = 0;
-    let mut end: usize = 28;
-    let mut m: usize = 0;
-    while k < end {
-        let r = rows[m];
-        if offset < r.0 {
-            end = m;
-        } else {
-            if offset <= r.1 {
-                return Found::At(region(base, r));
-            }
-            k = m + 1;
-        }
-        m = (k + end) / 2;
+    let rows: &[Row] = &REGIONS;
+    let tables = rows[0];
+    if offset <= tables.1 {
+        return Some(region(base, tables));
     }
-    Found::Nothing
+    let row = *rows.get(rows.partition_point(|r| r.1 < offset))?;
+    if offset < row.0 {
+        return None;
+    }
+    Some(region(base, row))
 }
 
 // A row's region, raised to a base.
@@ -57,21 +52,14 @@ fn region(base: u16, row: Row) -> Region
     requires row_bound_2 { base + row.1 < 65536 }
     ensures { result ≡ record { first = base + row.0; last = base + row.1; access = row.2 } }
 {
-    let access = row.2;
     Region {
         first: base + row.0,
         last: base + row.1,
-        access: access,
+        access: row.2,
     }
 }
 
-const RW: Access = Access::ReadWrite;
-
-const R: Access = Access::Read;
-
-const W: Access = Access::Write;
-
-// First address, last address, access.
+// First address, last address, access. A row of the table stays on one line, as it would not with named fields.
 #[derive(Clone, Copy)]
 struct Row(u16, u16, Access);
 

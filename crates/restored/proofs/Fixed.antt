@@ -1,9 +1,9 @@
 -- The fixed words are table 0 and entry 0 of the scale factors and of the offsets (`place_of`), so they are the same on any two cards whose
 -- settings are sound (`fixed_same`): a rule of the rows that the paper lists once. Assumes nothing.
 use mathlib.Core.Path.{◌≡◌, refl, sym, ◌∙◌}
-use mathlib.Core.Bool.{Bool, true, false, true≢false}
+use mathlib.Core.Bool.{Bool, true, false}
 use mathlib.Core.List.{List}
-use Prim.Native.Nat.{ℕ, ◌+◌, ◌-◌, ◌/◌, ◌%◌, ◌<◌, ◌≤◌}
+use Prim.Native.Nat.{ℕ, ◌+◌, ◌/◌, ◌%◌, ◌<◌, ◌≤◌}
 use native.Mathlib.Omega.{arith}
 use lib.Dec.{ltb}
 use borrow.Author.Tests.{ltb-true, ltb-false}
@@ -11,7 +11,7 @@ use Rattle.map.specs.declared.Setting.{Setting}
 use Rattle.map.specs.Map.{Row, Hit, hit, miss, scan, settings, channel_rows, card_rows, named_in, register_of}
 use Rattle.map.specs.Settings.{is_fixed}
 use Rattle.map.specs.Addresses.{table_at, scale_at, offset_at}
-use Rattle.map.proofs.Rows.{Hits, at, hits, All, scan_all}
+use Rattle.map.proofs.Rows.{hits, All, scan_all}
 use Rattle.map.proofs.Blocks.{in_card, channel_register}
 use Rattle.channel.specs.Channel.{word}
 use Rattle.saved.proofs.Covered.{first_fixed}
@@ -36,7 +36,7 @@ free : (f : ℕ) (s : ℕ → Setting) (c o : ℕ) → is_fixed (settings 0 s c 
 free f s = first f 0 s (λ o h. absurd (omega arith))
 
 never : (o : ℕ) → false ≡ true → Place o
-never o e = absurd (true≢false (sym e))
+never o e = absurd cc
 
 channel_placed : All Placed channel_rows
 unfolding channel_rows
@@ -53,12 +53,7 @@ card_placed = (
 )
 
 place_in : (l : List Row) → All Placed l → (h : Hit) (c x : ℕ) → scan l x ≡ h → is_fixed (named_in h c x) ≡ true → Place x
-place_in l p (hit r) c x e f = go (hits l x r e)
-  where
-    go : Hits l x r → Place x
-    go (at k n y u v) =
-        let d : r.region.first + (x - r.region.first) ≡ x = omega arith in
-        rw d at (scan_all Placed l p x r e c (x - r.region.first) f)
+place_in l p (hit r) c x e f = grind (arith, hits, scan_all)
 place_in l p miss c x e f = never x f
 
 -- a fixed word is in a channel's block, at one of these places

@@ -1,7 +1,8 @@
 -- The saved text has one line for each frame (`lines_are`), and a line is read back as the write of the words that it was made of.
+use Rattle.std.specs.Prelude.{Some}
 -- Assumes nothing.
-use mathlib.Core.Path.{◌≡◌, refl, sym, ap, ◌∙◌}
-use mathlib.Core.Bool.{Bool, true, false, ◌&&◌, cond, true≢false}
+use mathlib.Core.Path.{◌≡◌, refl, ap, ◌∙◌}
+use mathlib.Core.Bool.{Bool, true, false, ◌&&◌, cond}
 use mathlib.Core.List.{List, [], ◌∷◌, ◌++◌, map, append-nil, append_assoc}
 use Prim.Native.Nat.{ℕ, zero, suc, ◌+◌, ◌*◌, ◌-◌, ◌/◌, ◌≤◌, ◌<◌}
 use native.Mathlib.Omega.{arith}
@@ -26,23 +27,25 @@ use Rattle.restored.specs.Restored.{LinesAre}
 -- no digit is LF
 line_first : (x p s : List ℕ) → all_digits x ≡ true → lines_from p (x ++ 10 ∷ s) ≡ (p ++ x) ∷ lines_from [] s
 unfolding lines_from every
-line_first [] p s d = ap (λ (l : List ℕ). l ∷ lines_from [] s) (sym (append-nil p))
+line_first [] p s d = cc (append-nil p)
 line_first (b ∷ x) p s d = go (is_digit b) refl d (line_first x (p ++ b ∷ []) s)
   where
     go : (t : Bool) → is_digit b ≡ t → t && every is_digit x ≡ true → (every is_digit x ≡ true → lines_from (p ++ b ∷ []) (x ++ 10 ∷ s) ≡ ((p ++ b ∷ []) ++ x) ∷ lines_from [] s)
         → cond (eqb b 10) (p ∷ lines_from [] (x ++ 10 ∷ s)) (lines_from (p ++ b ∷ []) (x ++ 10 ∷ s)) ≡ (p ++ b ∷ x) ∷ lines_from [] s
     go true e d r =
-        rw (ne_eqb b 10 (λ f. true≢false (sym e ∙ ap is_digit f)))
-        (r d ∙ ap (λ (l : List ℕ). l ∷ lines_from [] s) (append_assoc p (b ∷ []) x))
-    go false e d r = absurd (true≢false (sym d))
+        rw (ne_eqb b 10 (λ f. cc))
+        (cc (r d, append_assoc p (b ∷ []) x))
+    go false e d r = absurd cc
 
 lines_of_lem : (s : List ℕ) (l : List Span) → lines_of (text_of s l) ≡ map (frame_text s) l
 unfolding text_of lines_from frame_text
 lines_of_lem s [] = refl
 lines_of_lem s (x ∷ l) =
-    ap (lines_from []) (append_assoc (frame_text s x) (10 ∷ []) (text_of s l))
-    ∙ line_first (frame_text s x) [] (text_of s l) (text_digits 0x01 x.first (words_at s x.first x.count))
-    ∙ ap (λ (m : List (List ℕ)). frame_text s x ∷ m) (lines_of_lem s l)
+    cc (
+      append_assoc (frame_text s x) (10 ∷ []) (text_of s l),
+      line_first (frame_text s x) [] (text_of s l) (text_digits 0x01 x.first (words_at s x.first x.count)),
+      lines_of_lem s l,
+    )
 
 one_each : (s : List ℕ) → lines_of (saved_text s) ≡ map (frame_text s) frames
 unfolding saved_text
@@ -64,25 +67,26 @@ small_words_at s h a zero = tt
 small_words_at s h a (suc n) = (h a, small_words_at s h (suc a) n)
 
 -- the write that a line of its length says
-write_read : (s : List ℕ) (n : ℕ) → length s ≡ 6 + 4 * n → n ≤ 64 → write_frame s ≡ Write (word_at s 2) n
+write_read : (s : List ℕ) (n : ℕ) → length s ≡ 6 + 4 * n → n ≤ 64 → write_frame s ≡ Some (Write (word_at s 2) n)
 unfolding write_frame
 write_read s n l h =
     let e : (length s - 6) / 4 ≡ n = omega arith in
     rw (e, eq-eqb (length s) (6 + 4 * n) l, le-leb n 64 h)
 
 module _ (s : List ℕ) (x : Span) where
-  pub frame_is : x.first < 65536 → x.count ≤ 64 → frame_of (frame_text s x) ≡ Write x.first x.count
+  pub frame_is : x.first < 65536 → x.count ≤ 64 → frame_of (frame_text s x) ≡ Some (Write x.first x.count)
   unfolding frame_text byte_at hex2
   frame_is h k =
       let ws : List ℕ = words_at s x.first x.count in
       let n : length (words_at s x.first x.count) ≡ x.count = length_words_at s x.first x.count in
-      frame_named (frame_text s x) 1 (text_digits 0x01 x.first ws) refl
-      ∙ write_read (frame_text s x) x.count (text_length 0x01 x.first ws ∙ ap (λ (m : ℕ). 6 + 4 * m) n) k
-      ∙ ap (λ (f : ℕ). Write f x.count) (text_first 0x01 x.first ws h)
+      cc (
+        frame_named (frame_text s x) 1 (text_digits 0x01 x.first ws) refl,
+        write_read (frame_text s x) x.count (cc (text_length 0x01 x.first ws)) k,
+        text_first 0x01 x.first ws h,
+      )
 
   pub words_are : ((a : ℕ) → get_or s a 0 < 65536) → words_of x.count (frame_text s x) ≡ words_at s x.first x.count
   unfolding frame_text
   words_are h =
       let ws : List ℕ = words_at s x.first x.count in
-      ap (λ (m : ℕ). words_of m (frame_text s x)) (sym (length_words_at s x.first x.count))
-      ∙ text_words 0x01 x.first ws (small_words_at s h x.first x.count)
+      cc (length_words_at s x.first x.count, text_words 0x01 x.first ws (small_words_at s h x.first x.count))

@@ -1,9 +1,10 @@
 -- The frames of a sound card's settings s, fed to a card whose slots hold what they hold in s, or 0xFE: every word is done, each answer is 0
 -- with all words processed, and nothing but settings changes (`all_played`); after it the words of the frames are those of s, and a word
 -- that was so before still is (`laid_new`, `laid_kept`). Assumes nothing.
+use Rattle.std.specs.Prelude.{Ok, Some}
 use mathlib.Core.Path.{◌≡◌, refl, sym, ap, ◌∙◌}
-use mathlib.Core.Bool.{Bool, true, false, not, ◌&&◌, ◌||◌, true≢false}
-use mathlib.Core.List.{List, [], ◌∷◌, ◌++◌, map}
+use mathlib.Core.Bool.{Bool, true, false, not, ◌&&◌, ◌||◌}
+use mathlib.Core.List.{List, [], ◌∷◌, map}
 use mathlib.Core.Logic.{◌⊎◌, inl, inr}
 use Prim.Native.Nat.{ℕ, zero, suc, ◌+◌, ◌-◌, ◌/◌, ◌≤◌, ◌<◌}
 use native.Mathlib.Numerals.{add-one}
@@ -23,12 +24,10 @@ use Rattle.slots.proofs.Holders.{nobody_if}
 use Rattle.channel.specs.Channel.{word}
 use Rattle.card.specs.declared.Card.{Card}
 use Rattle.card.specs.Card.{state}
-use Rattle.transfer.specs.declared.Verdict.TheVariants.{Accepted}
-use Rattle.transfer.specs.declared.Answer.TheVariants.{Done}
 use Rattle.transfer.specs.declared.Effect.TheVariants.{Keep}
 use Rattle.transfer.specs.Word.{is_level, held_at, running_at, judge_of, effect_of, one, write_word}
 use Rattle.transfer.specs.Transfer.{out, write_words, write_of}
-use Rattle.line.specs.Answer.{head_of, Step, step, wrote, step_of}
+use Rattle.line.specs.Answer.{head_of, step, step_of}
 use Rattle.line.specs.Session.{answers_of, played_of}
 use Rattle.line.proofs.Frames.{step_is}
 use Rattle.line.specs.declared.Frame.TheVariants.{Write}
@@ -102,7 +101,7 @@ laid_kept s t (x ∷ l) b e = laid_kept s (sets t x.first (words_at s x.first x.
 
 pub laid_new : (s t : List ℕ) (l : List Span) (b : ℕ) → Partly s t → b < 16960 → within l b ≡ true → word (laid s t l) b ≡ word s b
 unfolding laid
-laid_new s t [] b p h e = absurd (true≢false (sym e))
+laid_new s t [] b p h e = absurd cc
 laid_new s t (x ∷ l) b p h e = go (inside x b) refl e (laid_new s next l b (sets_partly s t x.first x.count p) h)
   where
     next : List ℕ
@@ -119,7 +118,7 @@ laid_new s t (x ∷ l) b p h e = go (inside x b) refl e (laid_new s next l b (se
 -- a setting that isn't fixed is kept, and no ramp is asked
 keeps : (r : Register) → Kept r → is_fixed r ≡ false → (v : ℕ) (k : Card) → (effect_of r v ≡ Keep v) × (running_at k r ≡ false)
 keeps r (plain s e) f v k = rw e (refl, refl)
-keeps r (fixed s e) f v k = absurd (true≢false (rw e at f))
+keeps r (fixed s e) f v k = absurd cc
 keeps r (slot l e) f v k = rw e (refl, refl)
 
 module _ (s : List ℕ) (w : Words s) (t : List ℕ) (p : Partly s t) (a : ℕ) where
@@ -132,7 +131,7 @@ module _ (s : List ℕ) (w : Words s) (t : List ℕ) (p : Partly s t) (a : ℕ) 
 
       same : (n : ℕ) → n < 256 → slot_of t n ≡ word s a → (word s a ≡ 0xFE → ⊥) → (slot_of t n ≡ slot_of s n) ⊎ (slot_of t n ≡ 0xFE) → level_of n ≡ level_of (a - 0x4000)
       same n h e x (inl q) = w.one n (a - 0x4000) h (omega arith) (sym q ∙ e ∙ ap (word s) (sym d)) (λ z. x (sym e ∙ q ∙ z))
-      same n h e x (inr q) = absurd (x (sym e ∙ q))
+      same n h e x (inr q) = absurd (x cc)
 
       go : (b : Bool) → eqb (word s a) 0xFE ≡ b → not b && is_level (other_of t (word s a) ((a - 0x4000) / 8)) ≡ false
       go true e = refl
@@ -144,7 +143,7 @@ module _ (s : List ℕ) (w : Words s) (t : List ℕ) (p : Partly s t) (a : ℕ) 
   not_held (slot l e) = let i : (0x4000 ≤ a) × (a < 0x4100) = rw e at (sits a) in slot_free i.0 i.1
 
   word_done : (k : Card) (l : List ℕ) → is_setting (register_of a) ≡ true → is_fixed (register_of a) ≡ false
-      → write_word (state k t l) a (word s a) ≡ one (state k (set t a (word s a)) l) Accepted
+      → write_word (state k t l) a (word s a) ≡ one (state k (set t a (word s a)) l) (Ok tt)
   unfolding write_word judge_of
   word_done k l e f =
       let q = kept (register_of a) e in
@@ -157,18 +156,17 @@ module _ (s : List ℕ) (w : Words s) (t : List ℕ) (p : Partly s t) (a : ℕ) 
 module _ (s : List ℕ) (w : Words s) (k : Card) (l : List ℕ) where
   -- its words, after i of them
   words_done_lem : (t : List ℕ) (a last i n : ℕ) → Partly s t → ((b : ℕ) → a ≤ b → b < a + n → (is_setting (register_of b) ≡ true) × (is_fixed (register_of b) ≡ false)) → a + n ≤ suc last
-      → write_words (state k t l) a last i (words_at s a n) ≡ out (state k (sets t a (words_at s a n)) l) (Done (i + n))
+      → write_words (state k t l) a last i (words_at s a n) ≡ out (state k (sets t a (words_at s a n)) l) (Ok (i + n))
   unfolding write_words words_at
-  words_done_lem t a last i zero p f h = ap (λ (m : ℕ). out (state k t l) (Done m)) (omega arith)
+  words_done_lem t a last i zero p f h = ap (λ (m : ℕ). out (state k t l) (Ok m)) (omega arith)
   words_done_lem t a last i (suc n) p f h =
       let g = f a (omega arith) (omega arith) in
       let e : i + 1 + n ≡ i + suc n = omega arith in
       rw (le-ltb last a (omega arith), word_done s w t p a k l g.0 g.1, add-one a)
-      (words_done_lem (set t a (word s a)) (suc a) last (i + 1) n (set_partly s t a p) (λ b u v. f b (omega arith) (omega arith)) (omega arith)
-      ∙ ap (λ (m : ℕ). out (state k (sets (set t a (word s a)) (suc a) (words_at s (suc a) n)) l) (Done m)) e)
+      (cc (words_done_lem (set t a (word s a)) (suc a) last (i + 1) n (set_partly s t a p) (λ b u v. f b (omega arith) (omega arith)) (omega arith)))
 
   frame_done : (t : List ℕ) (x : Span) → Partly s t → Good x
-      → write_of (state k t l) x.first x.count (words_at s x.first x.count) ≡ out (state k (sets t x.first (words_at s x.first x.count)) l) (Done x.count)
+      → write_of (state k t l) x.first x.count (words_at s x.first x.count) ≡ out (state k (sets t x.first (words_at s x.first x.count)) l) (Ok x.count)
   unfolding write_of
   frame_done t x p g =
       let n = length_words_at s x.first x.count in
@@ -181,9 +179,7 @@ module _ (s : List ℕ) (w : Words s) (k : Card) (l : List ℕ) where
       → step_of z (state k t l) (frame_text s x) ≡ step (state k (sets t x.first (words_at s x.first x.count)) l) (head_of 0x81 0 x.count)
   line_done z t x p g =
       let b = below x.first (g.free x.first (is_inside x x.first (omega arith) (omega (arith, g.some)))).0 in
-      step_is z (state k t l) (frame_text s x) (Write x.first x.count) (frame_is s x (omega arith) g.few)
-      ∙ ap (λ (v : List ℕ). wrote (write_of (state k t l) x.first x.count v)) (words_are s x w.small)
-      ∙ ap wrote (frame_done t x p g)
+      cc (step_is z (state k t l) (frame_text s x) (Some (Write x.first x.count)) (frame_is s x (omega arith) g.few), words_are s x w.small, frame_done t x p g)
 
   -- ALL FRAMES ARE DONE
   pub all_played : (z t : List ℕ) (fs : List Span) → Partly s t → AllSpans Good fs
@@ -193,6 +189,6 @@ module _ (s : List ℕ) (w : Words s) (k : Card) (l : List ℕ) where
   all_played z t (x ∷ fs) p g =
       let r = all_played z (sets t x.first (words_at s x.first x.count)) fs (sets_partly s t x.first x.count p) g.1 in
       let e = line_done z t x p g.0 in (
-        ap (λ (d : Step). played_of z d.state (map (frame_text s) fs)) e ∙ r.0,
-        ap (λ (d : Step). (d.text ++ 10 ∷ []) ++ answers_of z d.state (map (frame_text s) fs)) e ∙ ap (λ (m : List ℕ). (head_of 0x81 0 x.count ++ 10 ∷ []) ++ m) r.1,
+        cc,
+        cc,
       )

@@ -1,7 +1,7 @@
 -- Saved lines, fed to a fresh card of either edition, are all answered 0 and leave the same settings (`restored`); and two cards give equal lines exactly
 -- when their settings are equal (`equal_lines`). Assumes nothing.
-use mathlib.Core.Path.{◌≡◌, refl, sym, ap, ◌∙◌}
-use mathlib.Core.Bool.{Bool, true, false, not, ◌&&◌, ◌||◌, true≢false, or-true}
+use mathlib.Core.Path.{◌≡◌, refl, sym, ◌∙◌}
+use mathlib.Core.Bool.{Bool, true, false, ◌||◌, or-true}
 use mathlib.Core.List.{List, [], ◌∷◌, map}
 use mathlib.Core.Logic.{inr}
 use Prim.Native.Nat.{ℕ, zero, suc, ◌+◌, ◌≤◌, ◌<◌}
@@ -16,8 +16,7 @@ use Rattle.map.specs.Settings.{is_setting, is_fixed}
 use Rattle.channel.specs.Channel.{word}
 use Rattle.card.specs.Card.{State, state}
 use Rattle.card.specs.Reset.{settings_reset, tables_reset, waves_reset, card_reset}
-use Rattle.line.specs.Frame.{words_of}
-use Rattle.line.specs.Session.{lines_of, session}
+use Rattle.line.specs.Session.{session}
 use Rattle.saved.specs.declared.Span.{Span}
 use Rattle.saved.specs.Saved.{words_at, frames, frame_text, text_of, saved_text}
 use Rattle.saved.specs.Laws.{inside, within, SavedAre}
@@ -35,11 +34,7 @@ use Rattle.restored.proofs.Played.{Partly, below, laid, laid_kept, laid_new, all
 -- a setting is fixed, or within the frames
 by_kind : (P : Type 0) (a : ℕ) → is_setting (register_of a) ≡ true → (is_fixed (register_of a) ≡ true → P) → (within frames a ≡ true → P) → P
 unfolding SavedAre
-by_kind P a e p q = go (is_fixed (register_of a)) refl
-  where
-    go : (b : Bool) → is_fixed (register_of a) ≡ b → P
-    go true f = p f
-    go false f = q (saved_are a ∙ rw (e, f))
+by_kind P a e p q = grind (arith, saved_are)
 
 -- two cards have the same settings exactly when their words there are
 same_words : (x y : State) → ((a : ℕ) → is_setting (register_of a) ≡ true → word x.settings a ≡ word y.settings a) → SameSettings x y
@@ -48,11 +43,7 @@ same_words x y h a e = setting_reads a e x ∙ h a e ∙ sym (setting_reads a e 
 -- what is saved is a setting
 saved_setting : (a : ℕ) → within frames a ≡ true → is_setting (register_of a) ≡ true
 unfolding SavedAre
-saved_setting a e = go (is_setting (register_of a)) (not (is_fixed (register_of a))) (sym (saved_are a) ∙ e)
-  where
-    go : (b d : Bool) → b && d ≡ true → b ≡ true
-    go true d t = refl
-    go false d t = t
+saved_setting a e = grind (arith, saved_are)
 
 -- ---- equal lines
 
@@ -66,12 +57,12 @@ module _ (s t : List ℕ) where
   unfolding text_of frame_text
   same_text [] h = refl
   same_text (x ∷ l) h =
-      rw (same_words_at x.first x.count (λ b u v. h b (rw (is_inside x b u v))), same_text l (λ a e. h a (ap (λ (q : Bool). inside x a || q) e ∙ or-true (inside x a))))
+      rw (same_words_at x.first x.count (λ b u v. h b (rw (is_inside x b u v))), same_text l (λ a e. h a (cc (or-true (inside x a)))))
 
   words_at_same : (a n b : ℕ) → words_at s a n ≡ words_at t a n → a ≤ b → b < a + n → word s b ≡ word t b
   unfolding words_at
   words_at_same a zero b e f g = absurd (omega arith)
-  words_at_same a (suc n) b e f g = go (eqb b a) refl (words_at_same (suc a) n b (cc))
+  words_at_same a (suc n) b e f g = go (eqb b a) refl (words_at_same (suc a) n b cc)
     where
       here : word s a ≡ word t a
       here = cc
@@ -81,8 +72,8 @@ module _ (s t : List ℕ) where
       go false i r = let d = eqb-false b a i in r (omega arith) (omega arith)
 
   lines_same : Words s → Words t → (l : List Span) (a : ℕ) → map (frame_text s) l ≡ map (frame_text t) l → within l a ≡ true → word s a ≡ word t a
-  lines_same v w [] a e i = absurd (true≢false (sym i))
-  lines_same v w (x ∷ l) a e i = go (inside x a) refl i (lines_same v w l a (cc))
+  lines_same v w [] a e i = absurd cc
+  lines_same v w (x ∷ l) a e i = go (inside x a) refl i (lines_same v w l a cc)
     where
       texts : frame_text s x ≡ frame_text t x
       texts = cc
@@ -90,7 +81,7 @@ module _ (s t : List ℕ) where
       go : (q : Bool) → inside x a ≡ q → q || within l a ≡ true → (within l a ≡ true → word s a ≡ word t a) → word s a ≡ word t a
       go true f i r =
           let h = inside_is x a f in
-          words_at_same x.first x.count a (sym (words_are s x v.small) ∙ ap (words_of x.count) texts ∙ words_are t x w.small) h.0 h.1
+          words_at_same x.first x.count a (cc (words_are s x v.small, texts, words_are t x w.small)) h.0 h.1
       go false f i r = r i
 
 module _ (x y : State) where
@@ -104,7 +95,7 @@ module _ (x y : State) where
   lines_settings v w e =
       same_words x y
       (λ a i. by_kind _ a i (fixed_same x.settings y.settings v.settings w.settings a)
-      (lines_same x.settings y.settings v.settings w.settings frames a (sym (lines_are.each x.settings) ∙ ap lines_of e ∙ lines_are.each y.settings)))
+      (lines_same x.settings y.settings v.settings w.settings frames a (cc (lines_are.each x.settings, lines_are.each y.settings))))
 
 -- TWO CARDS GIVE EQUAL LINES EXACTLY WHEN THEIR SETTINGS ARE EQUAL
 pub equal_lines : EqualLines
@@ -146,6 +137,6 @@ restored =
       answered = λ ed st v s l w h. (played ed st v s l w h).1;
       line_program = λ st v s l w h. (played First st v s l w h).1;
       settings = fed_same;
-      rest = λ ed st v s l w h. let e = (played ed st v s l w h).0 in (ap (λ (x : State). x.card) e, ap (λ (x : State). x.tables) e);
+      rest = λ ed st v s l w h. let e = (played ed st v s l w h).0 in (cc, cc);
       again = λ ed st v s l w h. settings_lines (fed_to ed s l w (saved_text st.settings)) st (λ a e. fed_same ed st v s l w h a (saved_setting a e));
     }

@@ -2,224 +2,165 @@
 // that is not answered 0 is told on standard error, and the rest goes on.
 #![tactic(auto)]
 
+ghost use Rattle.std.specs.Prelude.{◌≤◌};
+
 use card::Card;
 use std::io::{Print, Read};
 use std::rt::{Stderr, Stdin, Stdout};
+use std::{fmt, io};
 
-// Where lines come from, where the saved lines go, and where it is told what was refused and what failed.
+// What ends a session before its settings are saved.
 #[derive(Clone, Copy)]
-struct Streams {
-    lines: Stdin,
-    saved: Stdout,
-    words: Stderr,
+enum Failure {
+    Input,
+    Output,
 }
 
-// How many lines were played, and how many of them were not answered 0.
+impl fmt::Display for Failure {
+    fn fmt<W: fmt::Write>(&self, f: &mut fmt::Formatter<W>) -> fmt::Result {
+        f.write_str(match self {
+            Failure::Input => "standard input cannot be read; nothing is saved",
+            Failure::Output =>
+                "standard output cannot be written; the saved lines are not complete",
+        })
+    }
+}
+
+// A session.
 #[derive(Drop)]
-struct Tally {
-    lines: u64,
+struct Session {
+    lines: Stdin,
+    saved: Stdout,
+    // Where it is told what was refused.
+    words: Stderr,
+    settings: [u16; 16960],
+    tables: [u16; 512],
+    waves: [u16; 4096],
+    // The open line, and how many bytes of it are held: `line::feed` takes the two apart.
+    line: [u8; 263],
+    held: usize,
+    card: Card,
+    answer: [u8; 265],
+    // How many lines were played, and how many of them were not answered 0.
+    played: u64,
     refused: u64,
 }
 
-// After some bytes: the card, how many bytes of the open line are held, and the tally.
-#[derive(Drop)]
-struct Turn {
-    card: Card,
-    held: usize,
-    tally: Tally,
-}
-
-// The lent words and buffers, and the session on them.
+// The session on a reset card. What ends it early is told on standard error, and where that cannot be written there is nobody to tell.
 fn main(rt: HostRuntime) {
-    let mut settings = [0u16; 16960];
-    let mut tables = [0u16; 512];
-    let mut waves = [0u16; 4096];
-    let mut line = [0u8; 263];
-    let mut chunk = [0u8; 65536];
-    let streams = Streams {
+    let mut settings = [0; 16960];
+    let mut tables = [0; 512];
+    let mut waves = [0; 4096];
+    let card = line::start(&mut settings, &mut tables, &mut waves);
+    let mut session = Session {
         lines: rt.stdin(),
         saved: rt.stdout(),
         words: rt.stderr(),
+        settings,
+        tables,
+        waves,
+        line: [0; 263],
+        held: 0,
+        card,
+        answer: [0; 265],
+        played: 0,
+        refused: 0,
     };
-    serve(
-        streams,
-        &mut settings,
-        &mut tables,
-        &mut waves,
-        &mut line,
-        &mut chunk,
-    );
+    if let Err(failure) = session.serve() {
+        let _ = eprintln!(rt; "save: {failure}");
+    }
 }
 
-// The session. Its turns are counted, up to a number that no run uses up, since a proved loop has to end. A failed read is tried
-// again, a hundred times in all.
-fn serve(
-    streams: Streams,
-    settings: &mut [u16; 16960],
-    tables: &mut [u16; 512],
-    waves: &mut [u16; 4096],
-    line: &mut [u8; 263],
-    chunk: &mut [u8; 65536],
-) {
-    let k = line::start(settings, tables, waves);
-    let mut t = Turn {
-        card: k,
-        held: 0,
-        tally: Tally {
-            lines: 0,
-            refused: 0,
-        },
-    };
-    let mut failed: u32 = 0;
-    let mut input = streams.lines;
-    for _ in 0..u64::MAX {
-        match input.read(chunk) {
-            Ok(n) => {
-                if n == 0 {
-                    end_input(streams, settings, tables, waves, line, chunk, t);
-                    return;
-                }
-                t = take_turn(streams, settings, tables, waves, line, chunk, t, n);
-            }
-            Err(_) => {
-                failed = failed + 1;
-                if failed == 100 {
-                    complain(
-                        streams,
-                        b"save: standard input cannot be read; nothing is saved\n",
-                    );
-                    return;
-                }
+impl Session {
+    // A read that fails is tried again, a hundred times in all.
+    fn serve(&mut self) -> Result<(), Failure> {
+        let mut chunk = [0; 65536];
+        for _ in 0..100 {
+            if self.play_input(&mut chunk).is_ok() {
+                return self.end_input(&mut chunk);
             }
         }
+        Err(Failure::Input)
     }
-}
 
-// The bytes that were read.
-fn take_turn(
-    streams: Streams,
-    settings: &mut [u16; 16960],
-    tables: &mut [u16; 512],
-    waves: &[u16; 4096],
-    line: &mut [u8; 263],
-    chunk: &[u8],
-    t: Turn,
-    got: usize,
-) -> Turn {
-    let n = word::least(got, chunk.len());
-    play(streams, settings, tables, waves, line, &chunk[..n], t)
-}
+    // Plays the input to its end, or until a read fails. A proved loop has to end, and nothing says that the input does: the chunks are
+    // counted, up to a number that no run uses up.
+    fn play_input(&mut self, chunk: &mut [u8]) -> io::Result<()> {
+        for _ in 0..u64::MAX {
+            let n = self.lines.read(chunk)?;
+            if n == 0 {
+                break;
+            }
+            self.play(&chunk[..n]);
+        }
+        Ok(())
+    }
 
-// Plays bytes one after the other, so that each call gives one answer at most.
-fn play(
-    streams: Streams,
-    settings: &mut [u16; 16960],
-    tables: &mut [u16; 512],
-    waves: &[u16; 4096],
-    line: &mut [u8; 263],
-    bytes: &[u8],
-    t: Turn,
-) -> Turn {
-    let mut answer = [0u8; 265];
-    let mut k = t.card;
-    let mut held = t.held;
-    let mut tally = t.tally;
-    let mut i: usize = 0;
-    while i < bytes.len() {
-        let at = i;
-        i = i + 1;
-        let s = line::feed(
-            settings,
-            tables,
-            waves,
-            line,
-            &mut answer,
-            k,
-            held,
-            &bytes[at..i],
+    // Plays bytes one after the other, so that each call gives one answer at most.
+    fn play(&mut self, bytes: &[u8]) {
+        for byte in bytes {
+            let s = line::feed(
+                &mut self.settings,
+                &mut self.tables,
+                &self.waves,
+                &mut self.line,
+                &mut self.answer,
+                self.card,
+                self.held,
+                &[*byte],
+            );
+            self.card = s.card;
+            self.held = s.held;
+            self.count(s.end);
+        }
+    }
+
+    // The end of the input: the last line may lack its LF. What was refused is summed up, and the settings are written as lines.
+    fn end_input(&mut self, out: &mut [u8]) -> Result<(), Failure> {
+        let s = line::finish(
+            &mut self.settings,
+            &mut self.tables,
+            &self.waves,
+            &self.line,
+            &mut self.answer,
+            self.card,
+            self.held,
         );
-        k = s.card;
-        held = s.held;
-        tally = tell(streams, tally, &answer, s.end);
+        self.count(s.end);
+        if self.refused > 0 {
+            let _ = self.sum_up();
+        }
+        let n = saved::written(saved::save(&self.settings, out)).min(out.len());
+        self.saved.write_all(&out[..n]).map_err(|_| Failure::Output)
     }
-    Turn {
-        card: k,
-        held: held,
-        tally: tally,
-    }
-}
 
-// The end of the input: the last line may lack its LF. What was refused is summed up, and the settings are written as lines.
-fn end_input(
-    streams: Streams,
-    settings: &mut [u16; 16960],
-    tables: &mut [u16; 512],
-    waves: &[u16; 4096],
-    line: &[u8; 263],
-    out: &mut [u8],
-    t: Turn,
-) {
-    let mut answer = [0u8; 265];
-    let s = line::finish(settings, tables, waves, line, &mut answer, t.card, t.held);
-    sum_up(streams, tell(streams, t.tally, &answer, s.end));
-    let saved = saved::save(settings, out);
-    let n = word::least(saved::written(saved), out.len());
-    if streams.saved.write_all(&out[..n]).is_err() {
-        complain(
-            streams,
-            b"save: standard output cannot be written; the saved lines are not complete\n",
-        );
+    // Counts the line that the first `end` bytes answer, if they answer one, and tells it if it was refused.
+    fn count(&mut self, end: usize)
+        requires { end ≤ 265 }
+    {
+        if end == 0 {
+            return;
+        }
+        self.played = self.played.saturating_add(1);
+        if line::refused(&self.answer[..end]) {
+            self.refused = self.refused.saturating_add(1);
+            let _ = self.tell(end);
+        }
     }
-}
 
-// Counts the line that the first `end` bytes answer, if they answer one, and tells it if it was refused.
-fn tell(streams: Streams, tally: Tally, answer: &[u8], end: usize) -> Tally {
-    if end == 0 {
-        return tally;
+    // The line that is refused. Its answer, which ends with LF, is bytes, and a format takes none.
+    fn tell(&self, end: usize) -> io::Result<()>
+        requires { end ≤ 265 }
+    {
+        eprint!(self.words; "save: line {} is answered ", self.played)?;
+        self.words.write_all(&self.answer[..end])
     }
-    let lines = more(tally.lines);
-    let n = word::least(end, answer.len());
-    if !line::refused(&answer[..n]) {
-        return Tally {
-            lines: lines,
-            refused: tally.refused,
-        };
+
+    // What was refused, in all.
+    fn sum_up(&self) -> io::Result<()> {
+        eprintln!(self.words;
+            "save: {} of {} lines refused; the others were done; the guide has the numbers",
+            self.refused, self.played
+        )
     }
-    complain(streams, b"save: line ");
-    count(streams, lines);
-    complain(streams, b" is answered ");
-    complain(streams, &answer[..n]);
-    Tally {
-        lines: lines,
-        refused: more(tally.refused),
-    }
-}
-
-// What was refused, in all.
-fn sum_up(streams: Streams, tally: Tally) {
-    if tally.refused == 0 {
-        return;
-    }
-    complain(streams, b"save: ");
-    count(streams, tally.refused);
-    complain(streams, b" of ");
-    count(streams, tally.lines);
-    complain(
-        streams,
-        b" lines refused; the others were done; the guide has the numbers\n",
-    );
-}
-
-// One more.
-fn more(n: u64) -> u64 {
-    if n < u64::MAX { n + 1 } else { n }
-}
-
-// A word, or a number, on standard error; where it cannot be written there is nobody to tell.
-fn complain(streams: Streams, words: &[u8]) {
-    let _told = streams.words.write_all(words).is_ok();
-}
-
-fn count(streams: Streams, n: u64) {
-    let _told = streams.words.print(n).is_ok();
 }

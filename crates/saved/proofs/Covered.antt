@@ -1,5 +1,6 @@
 -- The frames hold every setting that isn't fixed, and nothing else (`saved_are`), and each frame lies in one region that is read and
 -- written (`all_good`): rules of the rows that the paper lists once, and inductions over lists of any length. Assumes nothing.
+use Rattle.std.specs.Prelude.{Some}
 use mathlib.Core.Path.{◌≡◌, refl, sym, ap, ◌∙◌}
 use mathlib.Core.Bool.{Bool, true, false, not, ◌&&◌, ◌||◌, cond, true≢false, or-true, or-false, or_assoc}
 use mathlib.Core.List.{List, [], ◌∷◌, ◌++◌, map}
@@ -10,7 +11,6 @@ use lib.ListN.{length, get_or}
 use borrow.Author.Tests.{not-true, ltb-true, ltb-false, leb-true, lt-ltb, le-ltb, le-leb, lt-leb}
 use Rattle.map.specs.declared.Access.TheVariants.{ReadWrite}
 use Rattle.map.specs.declared.Region.{Region}
-use Rattle.map.specs.declared.Found.TheVariants.{At}
 use Rattle.map.specs.declared.Setting.{Setting}
 use Rattle.map.specs.declared.Register.TheVariants as R
 use Rattle.map.specs.Map.{Row, Hit, hit, miss, holds, scan, settings, channel_rows, card_rows, base, raised, block, regions, no_row, named_in, region_of, register_of}
@@ -217,7 +217,7 @@ pub record Good (x : Span) : Type 0 where
   pub some : 1 ≤ x.count
   pub few : x.count ≤ 64
   pub region : Region
-  pub starts : region_of x.first ≡ At region
+  pub starts : region_of x.first ≡ Some region
   pub access : region.access ≡ ReadWrite
   pub ends : x.first + x.count ≤ suc region.last
   pub free : (a : ℕ) → inside x a ≡ true → (is_setting (register_of a) ≡ true) × (is_fixed (register_of a) ≡ false)

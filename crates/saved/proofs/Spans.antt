@@ -2,7 +2,8 @@
 use mathlib.Core.Path.{◌≡◌, refl, ap, ◌∙◌}
 use mathlib.Core.Bool.{Bool, ◌&&◌, cond}
 use mathlib.Core.List.{List, ◌++◌, map}
-use Prim.Native.Nat.{ℕ, ◌+◌, ◌-◌, ◌*◌, ◌/◌, ◌%◌, ◌≤◌, ◌<◌}
+use Prim.Native.Nat.{ℕ, ◌+◌, ◌-◌, ◌*◌, ◌/◌, ◌%◌, ◌≤◌, ◌<◌, ◌^◌}
+use native.Mathlib.Omega.{arith}
 use lib.Dec.{T, leb, ltb, eqb, leb→le, eqb→eq}
 use lib.Ieee.Fits.{and_l, and_r}
 use lib.ListN.{length, get_or}
@@ -10,18 +11,17 @@ use borrow.Author.Tests.{lt-ltb, le-ltb}
 use Rattle.word.proofs.Place.{all_pass, at_place}
 use Rattle.map.specs.Map.{channel_rows, card_rows, block, regions}
 use Rattle.saved.specs.declared.Span.{Span}
-use Rattle.saved.specs.declared.Row as code
 use Rattle.saved.specs.Saved.{holding, fixed_from, span, span_of, spans}
 
 -- the code's table: a channel's spans from its base, then the card's
-abbrev coded : Span → code.Row
-coded x = record { 0 = x.first; 1 = x.count }
+abbrev coded : Span → ℕ × ℕ
+coded x = (x.first, x.count)
 
-abbrev rows : List code.Row
+abbrev rows : List (ℕ × ℕ)
 rows = map coded (map span_of (holding channel_rows) ++ map span_of (holding card_rows))
 
-abbrev row_at : ℕ → code.Row
-row_at k = get_or rows k (record { 0 = 0; 1 = 0 })
+abbrev row_at : ℕ → ℕ × ℕ
+row_at k = get_or rows k (0, 0)
 
 -- the span that the code makes of its table
 abbrev code_span : ℕ → Span
@@ -68,6 +68,12 @@ module _ (k : ℕ) (h : k < 54) where
 -- a channel's span, and one of the card's
 pub of_channel_lem : (k : ℕ) → k < 52 → span (k / 13 * 0x1000 + (row_at (k % 13)).0) (row_at (k % 13)).1 ≡ code_span k
 of_channel_lem k h = rw (lt-ltb k 52 h)
+
+-- and its first address, a sum in the code, fits
+pub first_fits : (k : ℕ) → k < 52 → k / 13 * 0x1000 + (row_at (k % 13)).0 < 2 ^ 64
+first_fits k h =
+    let e : k / 13 * 0x1000 + (row_at (k % 13)).0 ≡ (get_or spans k (span 0 0)).first = ap (λ (y : Span). y.first) (of_channel_lem k h ∙ is_span k (omega arith)) in
+    rw e (omega (arith, (in_bounds k (omega arith)).0))
 
 pub of_card_lem : (k : ℕ) → 52 ≤ k → span (row_at (k - 52 + 13)).0 (row_at (k - 52 + 13)).1 ≡ code_span k
 of_card_lem k h = rw (le-ltb k 52 h)

@@ -8,10 +8,10 @@ use native.Mathlib.Nat.{le_of_suc-le-suc, not-suc-le-zero, eq-or-lt_of_le}
 use native.Mathlib.Omega.{arith}
 use lib.Dec.{eqb, eqb→eq}
 use lib.ListN.{length, get_or, set, take, drop, length-append, take-append-drop}
-use lib.Seq.{sets, take-suc}
+use lib.Seq.{sets, take-suc, drop-cons}
 use Rattle.word.proofs.Place.{at_place}
 use Rattle.digits.specs.Digits.{digit_of, hex2, hex4, hex_all}
-use Rattle.digits.proofs.Digits.{then_at, length_hex2, length_hex4, length_hex_all, hex_all_next}
+use Rattle.digits.proofs.Digits.{then_at, length_hex2, length_hex4, length_hex_all}
 use Rattle.saved.specs.declared.Span.{Span}
 use Rattle.saved.specs.Saved.{span, piece, pieces, cut, frames_of, words_at, frame_text, line_text, text_of, Laid}
 use Rattle.saved.specs.Laws.{bytes_in}
@@ -23,18 +23,14 @@ unfolding words_at
 length_words_at s a zero = refl
 length_words_at s a (suc n) = ap suc (length_words_at s (suc a) n)
 
-words_suc : (s : List ℕ) (a n : ℕ) → words_at s a (suc n) ≡ words_at s a n ++ get_or s (a + n) 0 ∷ []
+-- they are those that a slice of the settings has
+taken : (s : List ℕ) (a n : ℕ) → a + n ≤ length s → take n (drop a s) ≡ words_at s a n
 unfolding words_at
-words_suc s a zero = ap (λ (k : ℕ). get_or s k 0 ∷ []) (omega arith)
-words_suc s a (suc n) = ap (λ (l : List ℕ). get_or s a 0 ∷ l) (words_suc s (suc a) n ∙ ap (λ (k : ℕ). words_at s (suc a) n ++ get_or s k 0 ∷ []) (omega arith))
+taken s a zero h = refl
+taken s a (suc n) h = ap (take (suc n)) (drop-cons s a 0 (omega arith)) ∙ ap (λ (l : List ℕ). get_or s a 0 ∷ l) (taken s (suc a) n (omega arith))
 
--- a turn of the loop that writes them
-pub words_more : (o : List ℕ) (at : ℕ) (s : List ℕ) (a i : ℕ)
-    → sets (sets o at (hex_all (words_at s a i))) (at + 4 * i) (hex4 (get_or s (a + i) 0)) ≡ sets o at (hex_all (words_at s a (i + 1)))
-words_more o at s a i =
-    hex_all_next o at (words_at s a i) i (get_or s (a + i) 0) (length_words_at s a i)
-    ∙ ap (λ (l : List ℕ). sets o at (hex_all l)) (sym (words_suc s a i))
-    ∙ ap (λ (k : ℕ). sets o at (hex_all (words_at s a k))) (sym (add-one i))
+pub words_are : (s : List ℕ) (a n : ℕ) → a + n ≤ length s → take (a + n - a) (drop a s) ≡ words_at s a n
+words_are s a n h = ap (λ (k : ℕ). take k (drop a s)) (omega arith) ∙ taken s a n h
 
 -- the digits of the numbers below 16, as the code has them
 abbrev table : List ℕ

@@ -1,12 +1,12 @@
 -- Document 02, Four: 'Marta wants a bench's settings as a file she can send to another. Write them as 01 frames of the line program'.
-use Rattle.std.specs.Prelude.{◌≡◌, cond, List, [], ◌∷◌, ◌++◌, map, ℕ, zero, suc, ◌+◌, ◌-◌, ◌*◌, ◌/◌, min, ltb, length, get_or}
+use Rattle.std.specs.Prelude.{◌≡◌, cond, List, [], ◌∷◌, ◌++◌, map, ℕ, zero, suc, ◌+◌, ◌-◌, ◌*◌, ◌/◌, min, ltb, length, get_or, Result, Ok, Err}
 use Rattle.std.proofs.lemmas.List.Edits.{sets}
 use Rattle.digits.specs.Digits.{hex2, hex4, hex_all}
 use Rattle.map.specs.Map.{Row, regions}
 use Rattle.map.specs.Settings.{is_setting, is_fixed}
 use Rattle.saved.specs.declared.Span.{Span}
-use Rattle.saved.specs.declared.Saved.{Saved}
-use Rattle.saved.specs.declared.Saved.TheVariants.{Lines, TooShort}
+use Rattle.saved.specs.declared.Refusal.{Refusal}
+use Rattle.saved.specs.declared.Refusal.TheVariants.{TooShort}
 
 -- ---- what is saved
 
@@ -88,14 +88,14 @@ saved_text s = text_of s frames
 -- the lent buffer after it, and its answer
 pub record Kept : Type 0 where
   pub buffer : List ℕ
-  pub answer : Saved
+  pub answer : Result ℕ Refusal
 
-abbrev pub kept : List ℕ → Saved → Kept
+abbrev pub kept : List ℕ → Result ℕ Refusal → Kept
 kept o a = record { buffer = o; answer = a }
 
 -- '10 exactly if the lent buffer is shorter than the lines need, and then it is unchanged; else bytes past the lines stay'
 unfoldable pub save_of : List ℕ → List ℕ → Kept
-save_of s o = cond (ltb (length o) (length (saved_text s))) (kept o TooShort) (kept (sets o 0 (saved_text s)) (Lines (length (saved_text s))))
+save_of s o = cond (ltb (length o) (length (saved_text s))) (kept o (Err TooShort)) (kept (sets o 0 (saved_text s)) (Ok (length (saved_text s))))
 
 -- the text x stands in the buffer from `at` on, and where it ends
 abbrev pub Laid : List ℕ → ℕ → List ℕ → List ℕ → ℕ → Type 0
@@ -106,14 +106,14 @@ abbrev pub Lays : List ℕ → ℕ → List ℕ → List ℕ → ℕ → Type 0
 Lays x at out out' to = Laid x at out out' to
 
 -- the answer handed back, and the buffer left
-abbrev pub Saves : Kept → Saved → List ℕ → Type 0
+abbrev pub Saves : Kept → Result ℕ Refusal → List ℕ → Type 0
 Saves x r out = (r ≡ x.answer) × (out ≡ x.buffer)
 
 -- document 02's number of each answer, and how many bytes were written
-abbrev pub saved_number : Saved → ℕ
-saved_number (Lines n) = 0
-saved_number TooShort = 10
+abbrev pub saved_number : Result ℕ Refusal → ℕ
+saved_number (Ok n) = 0
+saved_number (Err TooShort) = 10
 
-abbrev pub bytes_of : Saved → ℕ
-bytes_of (Lines n) = n
-bytes_of TooShort = 0
+abbrev pub bytes_of : Result ℕ Refusal → ℕ
+bytes_of (Ok n) = n
+bytes_of (Err TooShort) = 0

@@ -7,10 +7,9 @@ ghost use Rattle.digits.specs.Digits.{hex_all};
 ghost use Rattle.saved.specs.Laws.{bytes_in};
 ghost use Rattle.saved.specs.Saved.{span, spans, pieces, cut, words_at, line_text, text_of, Lays, save_of, Saves, saved_number, bytes_of};
 
-// The answer to a save: the lines were written, so many bytes of them; or the buffer is too short for them.
+// Why a save writes nothing: the buffer is too short for the lines.
 #[derive(Clone, Copy)]
-pub enum Saved {
-    Lines(usize),
+pub enum Refusal {
     TooShort,
 }
 
@@ -21,150 +20,134 @@ pub struct Span {
     pub count: usize,
 }
 
-// The settings as lines, at the front of the buffer; one that is too short stays as it is.
+// The settings as lines, at the front of the buffer, and how many bytes they are; a buffer that is too short stays as it is.
 #[tactic(auto, unfolding(crate::specs::Saved::text_of, crate::specs::Saved::frames_of))]
-pub fn save(settings: &[u16; 16960], out: &mut [u8]) -> Saved
+pub fn save(settings: &[u16; 16960], out: &mut [u8]) -> Result<usize, Refusal>
     ensures { Saves (save_of settings.now out.old) result out.new }
 {
     if out.len() < LENGTH {
-        return Saved::TooShort;
+        return Err(Refusal::TooShort);
     }
-    let mut at: usize = 0;
-    let mut k: usize = 0;
-    while k < SPANS {
+    let mut at = 0;
+    for k in 0..SPANS {
         at = put_span(settings, span_at(k), out, at);
-        k = k + 1;
     }
-    Saved::Lines(at)
+    Ok(at)
 }
 
-// The number of an answer.
-pub fn number(saved: Saved) -> u16
+// The number of an answer: 0 is that of no refusal, so it is made of the whole answer. Public, with a row in docs/PROMISES.md.
+pub fn number(saved: Result<usize, Refusal>) -> u16
     ensures { result ≡ saved_number saved }
 {
     match saved {
-        Saved::Lines(_) => 0,
-        Saved::TooShort => 10,
+        Ok(_) => 0,
+        Err(Refusal::TooShort) => 10,
     }
 }
 
 // How many bytes were written.
-pub fn written(saved: Saved) -> usize
+pub fn written(saved: Result<usize, Refusal>) -> usize
     ensures { result ≡ bytes_of saved }
 {
-    match saved {
-        Saved::Lines(n) => n,
-        Saved::TooShort => 0,
-    }
+    saved.unwrap_or(0)
 }
 
-// Span k of the 54: thirteen of each channel from its base, then the card's two.
+// Span k of the 54: thirteen of each channel from its base, then the card's two. By place, as the definition `spans` has them.
 fn span_at(k: usize) -> Span
     requires { k < 54 }
     ensures value { result ≡ get_or spans k (span 0 0) }
     ensures count_bound { (result.first + result.count ≤ 16960) × (result.count ≤ 1920) }
 {
-    let rows = ROWS;
-    if k < OF_CHANNELS {
-        let r = rows[k % OF_CHANNEL];
+    if k < IN_CHANNELS {
+        let (first, count) = ROWS[k % PER_CHANNEL];
         Span {
-            first: k / OF_CHANNEL * 0x1000 + (r.0 as usize),
-            count: r.1 as usize,
+            first: k / PER_CHANNEL * 0x1000 + first,
+            count,
         }
     } else {
-        let r = rows[k - OF_CHANNELS + OF_CHANNEL];
-        Span {
-            first: r.0 as usize,
-            count: r.1 as usize,
-        }
+        let (first, count) = ROWS[k - IN_CHANNELS + PER_CHANNEL];
+        Span { first, count }
     }
 }
 
-// The frames of a span from place `at` on, 64 words each but the last; and where they end.
+// The frames of a span from place `at` on, 64 words each but the last; and where they end. The whole buffer is lent with a place, as `Lays`
+// and `digits` speak of it.
 #[tactic(auto, unfolding(crate::specs::Saved::text_of, crate::specs::Saved::cut))]
 fn put_span(settings: &[u16], x: Span, out: &mut [u8], at: usize) -> usize
     requires { (x.first + x.count ≤ length settings.now) × (at + bytes_in (cut x 0 (pieces x)) ≤ length out.old) × (at < 2 ^ 31) × (x.count ≤ 1920) }
     ensures lays { Lays (text_of settings.now (cut x 0 (pieces x))) at out.old out.new result }
     ensures upper_bound { result ≤ at + 7890 }
 {
-    let first = x.first;
-    let count = x.count;
-    let many = (count + 63) / 64;
     let mut end = at;
-    let mut j: usize = 0;
-    while j < many {
-        let n = word::least(64, count - 64 * j);
-        end = put_frame(settings, first + 64 * j, n, out, end);
-        j = j + 1;
+    for j in 0..x.count.div_ceil(64) {
+        let frame = Span {
+            first: x.first + 64 * j,
+            count: (x.count - 64 * j).min(64),
+        };
+        end = put_frame(settings, frame, out, end);
     }
     end
 }
 
-// A frame of n words and its LF, from place `at` on; and where it ends.
-fn put_frame(settings: &[u16], first: usize, n: usize, out: &mut [u8], at: usize) -> usize
-    requires { (first + n ≤ length settings.now) × (at + 7 + 4 * n ≤ length out.old) × (at < 2 ^ 32) × (n ≤ 64) }
-    ensures { Lays (line_text settings.now (span first n)) at out.old out.new result }
+// A frame of the words of a span and its LF, from place `at` on; and where it ends.
+fn put_frame(settings: &[u16], x: Span, out: &mut [u8], at: usize) -> usize
+    requires { (x.first + x.count ≤ length settings.now) × (at + 7 + 4 * x.count ≤ length out.old) × (at < 2 ^ 32) × (x.count ≤ 64) }
+    ensures { Lays (line_text settings.now x) at out.old out.new result }
 {
     digits::put2(out, at, 1);
-    digits::put4(out, at + 2, first);
-    put_words(settings, first, n, out, at + 6);
-    let end = at + 6 + 4 * n;
-    digits::put(out, end, 10);
+    digits::put4(out, at + 2, x.first);
+    put_words(&settings[x.first..x.first + x.count], out, at + 6);
+    let end = at + 6 + 4 * x.count;
+    word::put(out, end, b'\n');
     end + 1
 }
 
-// n words of the settings from an address on, four digits each, from place `at` on. There is room for them, so no store asks for it.
-#[tactic(auto, unfolding(digits::specs::Digits::hex_all, crate::specs::Saved::words_at))]
-fn put_words(settings: &[u16], first: usize, n: usize, out: &mut [u8], at: usize)
-    requires { (first + n ≤ length settings.now) × (at + 4 * n ≤ length out.old) }
-    ensures { out.new ≡ sets out.old at (hex_all (words_at settings.now first n)) }
+// Words, four digits each, from place `at` on. There is room for them, so no store asks for it, and the table is named before the loop: by
+// digits::put_words a save misses its bar of speed. By place, since after chunks_mut no proof knows what the buffer holds.
+#[tactic(auto, unfolding(digits::specs::Digits::hex_all))]
+fn put_words(words: &[u16], out: &mut [u8], at: usize)
+    requires { at + 4 * length words.now ≤ length out.old }
+    ensures { out.new ≡ sets out.old at (hex_all words.now) }
 {
     let table = DIGITS;
-    let mut i: usize = 0;
-    while i < n {
-        let w = settings[first + i] as usize;
+    for (i, word) in words.iter().enumerate() {
+        let w = usize::from(*word);
         let p = at + 4 * i;
         out[p] = table[w / 256 / 16 % 16];
         out[p + 1] = table[w / 256 % 16];
         out[p + 2] = table[w / 16 % 16];
         out[p + 3] = table[w % 16];
-        i = i + 1;
     }
 }
 
 // The digits of the numbers below 16.
-const DIGITS: [u8; 16] = [
-    48, 49, 50, 51, 52, 53, 54, 55, 56, 57, 65, 66, 67, 68, 69, 70,
-];
+const DIGITS: [u8; 16] = *b"0123456789ABCDEF";
 
-// How many bytes all lines are; how many spans they save, how many of these the channels have, and each.
+// How many bytes all lines are.
 const LENGTH: usize = 38079;
 
+// How many spans they save: in all, in the four channels, and in each.
 const SPANS: usize = 54;
 
-const OF_CHANNELS: usize = 52;
+const IN_CHANNELS: usize = 52;
 
-const OF_CHANNEL: usize = 13;
+const PER_CHANNEL: usize = 13;
 
-// First address, words.
-#[derive(Clone, Copy)]
-struct Row(u16, u16);
-
-// The spans of a channel, counted from its base, and the card's own.
-const ROWS: [Row; 15] = [
-    Row(0x080, 1920),
-    Row(0x800, 32),
-    Row(0x840, 32),
-    Row(0x861, 31),
-    Row(0x880, 32),
-    Row(0x8A1, 31),
-    Row(0x8E0, 32),
-    Row(0x900, 32),
-    Row(0x920, 32),
-    Row(0x940, 32),
-    Row(0x960, 32),
-    Row(0xA00, 1),
-    Row(0xA01, 1),
-    Row(0x4000, 256),
-    Row(0x4200, 1),
+// The spans of a channel, counted from its base, and the card's own: first address, words.
+const ROWS: [(usize, usize); 15] = [
+    (0x080, 1920),
+    (0x800, 32),
+    (0x840, 32),
+    (0x861, 31),
+    (0x880, 32),
+    (0x8A1, 31),
+    (0x8E0, 32),
+    (0x900, 32),
+    (0x920, 32),
+    (0x940, 32),
+    (0x960, 32),
+    (0xA00, 1),
+    (0xA01, 1),
+    (0x4000, 256),
+    (0x4200, 1),
 ];

@@ -1,5 +1,6 @@
 -- The search of the slots: what its answer means, slot by slot; and that no event but 0xFE is held by two levels, which a store keeps
 -- where no other level holds the new event. Assumes nothing.
+use Rattle.std.specs.Prelude.{Option, Some, None}
 use mathlib.Core.Path.{◌≡◌, refl, sym, ap, ◌∙◌}
 use mathlib.Core.Bool.{Bool, true, false, not, ◌&&◌, cond, true≢false}
 use mathlib.Core.List.{List}
@@ -11,15 +12,13 @@ use lib.Dec.{eqb}
 use lib.ListN.{length, set}
 use lib.Seq.{get_or-set_same, get_or-set_other}
 use borrow.Author.Tests.{eq-eqb, ne_eqb, eqb-true, eqb-false}
-use Rattle.slots.specs.declared.Holder.{Holder}
-use Rattle.slots.specs.declared.Holder.TheVariants.{Level, Nobody}
 use Rattle.slots.specs.Slots.{slot_of, level_of, holds, holder_from, holder_of, other_of, erased, OneLevel}
 use Rattle.slots.proofs.Fills.{erased_slot}
 
--- ---- one turn of the search: it ends at slot n, or goes on
+-- ---- one turn of the search: it ends at slot n, or goes on; after slot 255 it ends
 
 module _ (words : List ℕ) (event but n : ℕ) (h : n < 256) where
-  pub here : holds words event but n ≡ true → holder_from words event but (256 - n) n ≡ Level (level_of n)
+  pub here : holds words event but n ≡ true → holder_from words event but (256 - n) n ≡ Some (level_of n)
   unfolding holder_from
   here t = let e : 256 - n ≡ suc (255 - n) = omega arith in rw (e, t)
 
@@ -29,6 +28,10 @@ module _ (words : List ℕ) (event but n : ℕ) (h : n < 256) where
       let e : 256 - n ≡ suc (255 - n) = omega arith in
       let f : 256 - (n + 1) ≡ 255 - n = omega arith in
       rw (e, t, f, add-one)
+
+pub after : (words : List ℕ) (event but n : ℕ) → 256 ≤ n → holder_from words event but (256 - n) n ≡ None
+unfolding holder_from
+after words event but n h = let e : 256 - n ≡ 0 = omega arith in rw e
 
 -- ---- the whole search; `holder_of` is the case of level 32, which there is not
 
@@ -41,12 +44,12 @@ pub record Held (words : List ℕ) (event but l : ℕ) : Type 0 where
   pub stored : slot_of words slot ≡ event
 
 -- the answer is a level, and so is not nobody
-pub record SomeLevel (r : Holder) : Type 0 where
+pub record SomeLevel (r : Option ℕ) : Type 0 where
   pub level : ℕ
-  pub is : r ≡ Level level
+  pub is : r ≡ Some level
 
-pub not_nobody : (r : Holder) → SomeLevel r → r ≡ Nobody → ⊥
-not_nobody r s e = let z : ◌≡◌ {A = ℕ} 0 1 = cc s.is in omega arith
+pub not_nobody : (r : Option ℕ) → SomeLevel r → r ≡ None → ⊥
+not_nobody r s e = cc s.is
 
 module _ (words : List ℕ) (event but : ℕ) where
   -- what the test of a slot tells
@@ -66,11 +69,11 @@ module _ (words : List ℕ) (event but : ℕ) where
       go false p = absurd (true≢false (rw (eq-eqb (slot_of words n) event w, ne_eqb (level_of n) but (eqb-false (level_of n) but p)) at f))
 
   -- the answer of k slots from slot n on: a slot that passes the test, or none of them does
-  data Look (k n : ℕ) : Holder → Type 0 where
-    hit : (m : ℕ) → n ≤ m → m < n + k → holds words event but m ≡ true → Look k n (Level (level_of m))
-    none : ((m : ℕ) → n ≤ m → m < n + k → holds words event but m ≡ false) → Look k n Nobody
+  data Look (k n : ℕ) : Option ℕ → Type 0 where
+    hit : (m : ℕ) → n ≤ m → m < n + k → holds words event but m ≡ true → Look k n (Some (level_of m))
+    none : ((m : ℕ) → n ≤ m → m < n + k → holds words event but m ≡ false) → Look k n None
 
-  passed : (k n : ℕ) (r : Holder) → holds words event but n ≡ false → Look k (suc n) r → Look (suc k) n r
+  passed : (k n : ℕ) (r : Option ℕ) → holds words event but n ≡ false → Look k (suc n) r → Look (suc k) n r
   passed k n _ f (hit m p q t) = hit m (omega arith) (omega arith) t
   passed k n _ f (none g) = none (λ m p q. go m (eqb m n) refl p q)
     where
@@ -84,36 +87,33 @@ module _ (words : List ℕ) (event but : ℕ) where
   look (suc k) n = go (holds words event but n) refl (look k (suc n))
     where
       go : (b : Bool) → holds words event but n ≡ b → Look k (suc n) (holder_from words event but k (suc n))
-          → Look (suc k) n (cond b (Level (level_of n)) (holder_from words event but k (suc n)))
+          → Look (suc k) n (cond b (Some (level_of n)) (holder_from words event but k (suc n)))
       go true w r = hit n (omega arith) (omega arith) w
       go false w r = passed k n _ w r
 
   -- A LEVEL: one of its slots holds the event
-  pub level_held : (l : ℕ) → other_of words event but ≡ Level l → Held words event but l
+  pub level_held : (l : ℕ) → other_of words event but ≡ Some l → Held words event but l
   level_held l e = go (other_of words event but) (look 256 0) e
     where
-      same : (m : ℕ) → Level m ≡ Level l → m ≡ l
-      same m e = cc
-
-      go : (r : Holder) → Look 256 0 r → r ≡ Level l → Held words event but l
+      go : (r : Option ℕ) → Look 256 0 r → r ≡ Some l → Held words event but l
       go _ (hit m p q t) e =
           let y = test_true m t in
-          let d = same (level_of m) e in
+          let d : level_of m ≡ l = cc in
           record { slot = m; inside = omega arith; level = d; other = rw d at y.1; stored = y.0 }
-      go _ (none g) e = let z : ◌≡◌ {A = ℕ} 0 1 = cc in absurd (omega arith)
+      go _ (none g) e = absurd cc
 
   -- NOBODY: a slot that holds the event is of the level that is passed over; and the other way round
-  pub nobody_holds : other_of words event but ≡ Nobody → (n : ℕ) → n < 256 → slot_of words n ≡ event → level_of n ≡ but
+  pub nobody_holds : other_of words event but ≡ None → (n : ℕ) → n < 256 → slot_of words n ≡ event → level_of n ≡ but
   nobody_holds e n h w = go (other_of words event but) (look 256 0) e
     where
-      go : (r : Holder) → Look 256 0 r → r ≡ Nobody → level_of n ≡ but
-      go _ (hit m p q t) e = let z : ◌≡◌ {A = ℕ} 0 1 = cc in absurd (omega arith)
+      go : (r : Option ℕ) → Look 256 0 r → r ≡ None → level_of n ≡ but
+      go _ (hit m p q t) e = cc
       go _ (none g) e = test_false n (g n (omega arith) (omega arith)) w
 
-  pub nobody_if : ((n : ℕ) → n < 256 → slot_of words n ≡ event → level_of n ≡ but) → other_of words event but ≡ Nobody
+  pub nobody_if : ((n : ℕ) → n < 256 → slot_of words n ≡ event → level_of n ≡ but) → other_of words event but ≡ None
   nobody_if f = go (other_of words event but) (look 256 0)
     where
-      go : (r : Holder) → Look 256 0 r → r ≡ Nobody
+      go : (r : Option ℕ) → Look 256 0 r → r ≡ None
       go _ (hit m p q t) = let y = test_true m t in absurd (y.1 (f m (omega arith) y.0))
       go _ (none g) = refl
 
@@ -121,15 +121,15 @@ module _ (words : List ℕ) (event but : ℕ) where
   pub held_some : (n : ℕ) → n < 256 → slot_of words n ≡ event → (level_of n ≡ but → ⊥) → SomeLevel (other_of words event but)
   held_some n h w d = go (other_of words event but) (look 256 0)
     where
-      go : (r : Holder) → Look 256 0 r → SomeLevel r
+      go : (r : Option ℕ) → Look 256 0 r → SomeLevel r
       go _ (hit m p q t) = record { level = level_of m; is = refl }
       go _ (none g) = absurd (d (test_false n (g n (omega arith) (omega arith)) w))
 
 -- ---- no event but 0xFE is held by slots of two levels
 
 -- so the level of any slot that holds an event is its holder
-pub holder_level : (words : List ℕ) → OneLevel words → (event n : ℕ) → (event ≡ 0xFE → ⊥) → n < 256 → slot_of words n ≡ event → holder_of words event ≡ Level (level_of n)
-holder_level words one event n x h w = s.is ∙ ap Level (sym y.level ∙ one y.slot n y.inside h (y.stored ∙ sym w) (λ z. x (sym y.stored ∙ z)))
+pub holder_level : (words : List ℕ) → OneLevel words → (event n : ℕ) → (event ≡ 0xFE → ⊥) → n < 256 → slot_of words n ≡ event → holder_of words event ≡ Some (level_of n)
+holder_level words one event n x h w = s.is ∙ ap Some (sym y.level ∙ one y.slot n y.inside h (y.stored ∙ sym w) (λ z. x (sym y.stored ∙ z)))
   where
     s : SomeLevel (holder_of words event)
     s = held_some words event 32 n h w (λ d. omega arith)
@@ -149,7 +149,7 @@ one_level_off words at v o one m n p q w x =
     one m n p q (sym em ∙ w ∙ en) (λ z. x (em ∙ z))
 
 -- THE RULE: so does a slot that takes the null event, or one that no other level holds
-pub one_level_stored : (words : List ℕ) (n v : ℕ) → 0x4100 ≤ length words → n < 256 → OneLevel words → (v ≡ 0xFE) ⊎ (other_of words v (level_of n) ≡ Nobody) → OneLevel (set words (0x4000 + n) v)
+pub one_level_stored : (words : List ℕ) (n v : ℕ) → 0x4100 ≤ length words → n < 256 → OneLevel words → (v ≡ 0xFE) ⊎ (other_of words v (level_of n) ≡ None) → OneLevel (set words (0x4000 + n) v)
 one_level_stored words n v l h one free j k p q w x = go (eqb j n) refl (eqb k n) refl
   where
     -- the slot itself, and a slot that keeps its word
@@ -160,7 +160,7 @@ one_level_stored words n v l h one free j k p q w x = go (eqb j n) refl (eqb k n
     old m d = stored_else words (0x4000 + n) v m (λ e. d (omega arith))
 
     -- a slot that holds the new event is of slot n's level
-    beside : (m : ℕ) → m < 256 → slot_of words m ≡ v → (v ≡ 0xFE → ⊥) → (v ≡ 0xFE) ⊎ (other_of words v (level_of n) ≡ Nobody) → level_of m ≡ level_of n
+    beside : (m : ℕ) → m < 256 → slot_of words m ≡ v → (v ≡ 0xFE → ⊥) → (v ≡ 0xFE) ⊎ (other_of words v (level_of n) ≡ None) → level_of m ≡ level_of n
     beside m p w x (inl e) = absurd (x e)
     beside m p w x (inr e) = nobody_holds words v (level_of n) e m p w
 

@@ -1,6 +1,7 @@
 -- Every starred case of the paper, in one theorem: the samples by `sum`, the delays and transfers by computation on any state.
 -- Assumes nothing.
-use mathlib.Core.Path.{◌≡◌, refl, sym, ap, ◌∙◌}
+use Rattle.std.specs.Prelude.{Option, None}
+use mathlib.Core.Path.{◌≡◌, refl, ◌∙◌}
 use mathlib.Core.Bool.{true}
 use mathlib.Core.List.{List, [], ◌∷◌, ◌++◌, map}
 use Prim.Native.Nat.{ℕ, zero, suc, ◌+◌, ◌-◌, ◌≤◌}
@@ -13,8 +14,6 @@ use Rattle.sum.specs.Starred as samples
 use Rattle.sum.proofs.Starred.{as_starred}
 use Rattle.map.specs.Map.{channel_rows, card_rows, block, regions, scan}
 use Rattle.map.specs.Addresses.{delay_at}
-use Rattle.slots.specs.declared.Holder.{Holder}
-use Rattle.slots.specs.declared.Holder.TheVariants.{Nobody}
 use Rattle.slots.specs.Slots.{other_of}
 use Rattle.slots.proofs.Holders.{nobody_if, held_some, SomeLevel}
 use Rattle.channel.specs.declared.Channel.{Channel}
@@ -43,8 +42,8 @@ module _ (ed : Edition) (s w l : List ℕ) (c : ℕ) (ch : Channel) (level : ℕ
 -- ticks add up
 ticked_add : (ed : Edition) (a b : ℕ) (s w : List ℕ) (c : ℕ) (x : Side) → ticked ed (a + b) s w c x ≡ ticked ed b s w c (ticked ed a s w c x)
 unfolding ticked
-ticked_add ed zero b s w c x = ap (λ (n : ℕ). ticked ed n s w c x) (zero-add b)
-ticked_add ed (suc a) b s w c x = ap (λ (n : ℕ). ticked ed n s w c x) (suc-add a b) ∙ ticked_add ed a b s w c (tick_of ed s w x.tables c x.channel)
+ticked_add ed zero b s w c x = cc (zero-add b)
+ticked_add ed (suc a) b s w c x = cc (suc-add a b, ticked_add ed a b s w c (tick_of ed s w x.tables c x.channel))
 
 -- ten ticks after a load the channel starts
 abbrev started : Edition → List ℕ → List ℕ → ℕ → List ℕ → Side → Side
@@ -65,18 +64,18 @@ comes d n f = record {
       let y = load s l c ch level in
       let q = f ed s w l c ch level e in
       let m : n + 10 - 1 ≡ n + 9 = omega arith in
-      let nine : ticked ed (n + 10 - 1) s w c x ≡ ticked ed 9 s w c y = ap (λ (k : ℕ). ticked ed k s w c x) m ∙ ticked_add ed n 9 s w c x ∙ ap (ticked ed 9 s w c) q in
-      ticked_add ed n 10 s w c x ∙ ap (ticked ed 10 s w c) q ∙ ten_more ed s w l c ch level ∙ ap (started ed s w c y.tables) (sym nine);
+      let nine : ticked ed (n + 10 - 1) s w c x ≡ ticked ed 9 s w c y = cc (ticked_add ed n 9 s w c x) in
+      cc (ticked_add ed n 10 s w c x, ten_more ed s w l c ch level, nine);
 }
 
 -- ---- transfers
 
-is_level_lem : (r : Holder) → SomeLevel r → is_level r ≡ true
+is_level_lem : (r : Option ℕ) → SomeLevel r → is_level r ≡ true
 is_level_lem r x = rw x.is
 
 -- no slot holds 0x11, so level 1 may have it; slot 0 of level 0 holds 0x10 still, so level 1 may not
 module _ (st : State) (h : Holding st) where
-  free : other_of st.settings 0x11 1 ≡ Nobody
+  free : other_of st.settings 0x11 1 ≡ None
   free = nobody_if st.settings 0x11 1 (λ n l e. absurd (h.no_eleven n l e))
 
   taken : is_level (other_of (set st.settings 0x4008 0x11) 0x10 1) ≡ true
@@ -109,13 +108,7 @@ second v st = record { number_is = refl; processed_is = refl; stays = refl }
 -- the samples' part, row by row
 each_sample : (cs : List samples.Case) (rest : List Case) → map samples.samples_given cs ≡ cs → Each rest → Each (map ramp cs ++ rest)
 each_sample [] rest e h = h
-each_sample (c ∷ cs) rest e h = (cc_head e, each_sample cs rest (cc_tail e) h)
-  where
-    cc_head : {x y : samples.Case} {xs ys : List samples.Case} → x ∷ xs ≡ y ∷ ys → x ≡ y
-    cc_head e = cc
-
-    cc_tail : {x y : samples.Case} {xs ys : List samples.Case} → x ∷ xs ≡ y ∷ ys → xs ≡ ys
-    cc_tail e = cc
+each_sample (c ∷ cs) rest e h = (cc, each_sample cs rest (cc) h)
 
 -- EVERY STARRED CASE
 pub as_stated : (v : ℕ) → Each (starred v)

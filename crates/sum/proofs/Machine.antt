@@ -9,8 +9,7 @@ use lib.Dec.{lit≤}
 use lib.IntN.{ℤ, pos, negsuc, nat_abs, ◌+ℤ◌, ◌-ℤ◌, ◌*ℤ◌}
 use lib.Signed.{mag, lt_z}
 use mir.Syntax.{w64}
-use mir.Val.{SFits, to_z}
-use mir.Facts.{to_z_pos}
+use mir.Val.{SFits}
 use Rattle.word.specs.Word.{signed_of}
 use Rattle.word.proofs.Sizes.{sub_ind, size_add, size_minus, size_mul, fits}
 use Rattle.word.proofs.Number.{size}
@@ -62,10 +61,6 @@ module _ (s o : ℕ) (hs : s < 2 ^ 16) (ho : o < 2 ^ 16) (n : ℤ) (hn : nat_abs
 
   pub size_total : nat_abs (floor (signed_of s *ℤ n) d +ℤ signed_of o) ≤ 2 ^ 48 + 2 ^ 15
   size_total = size_add (floor (signed_of s *ℤ n) d) (signed_of o) size_scaled (size o ho)
-
--- a word in an i64
-pub plain : (n : ℕ) → n < 2 ^ 32 → to_z w64 n ≡ pos n
-plain n h = to_z_pos w64 (omega arith)
 
 -- ---- signs
 

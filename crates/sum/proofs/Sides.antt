@@ -1,4 +1,5 @@
 -- The range: what a sum within it looks like, and that a sum between two others lies on no side but theirs. Assumes nothing.
+use Rattle.std.specs.Prelude.{Some}
 use mathlib.Core.Path.{◌≡◌, refl, sym, ap, ◌∙◌}
 use mathlib.Core.Bool.{Bool, true, false, cond, true≢false}
 use mathlib.Core.Logic.{◌⊎◌, inl, inr}
@@ -14,7 +15,6 @@ use Rattle.sum.specs.Sample.{side_of, settled, total_of}
 use Rattle.sum.specs.declared.Edition.{Edition}
 use Rattle.sum.specs.declared.Side.{Side}
 use Rattle.sum.specs.declared.Side.TheVariants.{Below, Within, Above}
-use Rattle.sum.specs.declared.Sum.TheVariants.{Word}
 use Rattle.sum.specs.Order.{Rises, Falls, Between}
 use Rattle.sum.proofs.Samples.{one_way, between_points}
 
@@ -30,7 +30,7 @@ unfolding side_of
 in_range z e = within_is (lt_z z (negsuc 32767)) (lt_z (pos 32767) z) e
 
 -- THE WORD OF A SUM WITHIN THE RANGE STANDS FOR THE SUM
-pub exact : (z : ℤ) → side_of z ≡ Within → (settled z ≡ Word (word_of z)) × (signed_of (word_of z) ≡ z) × (word_of z < 2 ^ 16)
+pub exact : (z : ℤ) → side_of z ≡ Within → (settled z ≡ Some (word_of z)) × (signed_of (word_of z) ≡ z) × (word_of z < 2 ^ 16)
 exact z e = let r = in_range z e in let w = signed_of_word z r.0 r.1 in (rw e, w.0, w.1)
 
 -- ---- the order of sides

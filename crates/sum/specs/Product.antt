@@ -1,9 +1,8 @@
 -- Document 02, Two: 'the output is floor(amplitude × word / 16384)'.
-use Rattle.std.specs.Prelude.{ℕ, ℤ, ◌*ℤ◌}
+use Rattle.std.specs.Prelude.{ℕ, ℤ, ◌*ℤ◌, Option}
 use Rattle.word.specs.Word.{signed_of}
 use Rattle.sum.specs.Floor.{floor}
 use Rattle.sum.specs.Sample.{settled}
-use Rattle.sum.specs.declared.Sum.{Sum}
 
 -- 16384 stands for 1
 abbrev pub one : ℕ
@@ -14,5 +13,5 @@ abbrev pub scaled_by : ℕ → ℤ → ℤ
 scaled_by amplitude x = floor (signed_of amplitude *ℤ x) one
 
 -- 'amplitude −32768 times word −16384 doesn't fit'
-abbrev pub product_of : ℕ → ℤ → Sum
+abbrev pub product_of : ℕ → ℤ → Option ℕ
 product_of amplitude x = settled (scaled_by amplitude x)

@@ -1,14 +1,12 @@
 -- 'The sum and its rounding'; and document 02, Six: 'The second hardware edition cuts f to a whole number (floor) before scaling, then cuts
 -- again. Edition 1 must stay for the old benches.'
-use Rattle.std.specs.Prelude.{cond, ℕ, ◌*◌, ℤ, pos, neg_ℤ, ◌+ℤ◌, ◌*ℤ◌}
+use Rattle.std.specs.Prelude.{cond, ℕ, ◌*◌, ℤ, pos, neg_ℤ, ◌+ℤ◌, ◌*ℤ◌, Option, Some, None}
 use Rattle.std.specs.Int.Signed.{lt_z}
 use Rattle.word.specs.Word.{signed_of, word_of}
 use Rattle.sum.specs.Floor.{floor}
 use Rattle.sum.specs.Fraction.{Fraction, whole, fraction}
 use Rattle.sum.specs.declared.Edition.{Edition}
 use Rattle.sum.specs.declared.Edition.TheVariants.{First, Second}
-use Rattle.sum.specs.declared.Sum.{Sum}
-use Rattle.sum.specs.declared.Sum.TheVariants.{Word, Overflow}
 use Rattle.sum.specs.declared.Side.{Side}
 use Rattle.sum.specs.declared.Side.TheVariants.{Below, Within, Above}
 
@@ -29,17 +27,17 @@ sum_of edition S f offset = once_of S (cut edition f) offset
 unfoldable pub side_of : ℤ → Side
 side_of z = cond (lt_z z (neg_ℤ (pos 32768))) Below (cond (lt_z (pos 32767) z) Above Within)
 
-abbrev pub on_side : Side → ℤ → Sum
-on_side Below z = Overflow
-on_side Within z = Word (word_of z)
-on_side Above z = Overflow
+abbrev pub on_side : Side → ℤ → Option ℕ
+on_side Below z = None
+on_side Within z = Some (word_of z)
+on_side Above z = None
 
-abbrev pub settled : ℤ → Sum
+abbrev pub settled : ℤ → Option ℕ
 settled z = on_side (side_of z) z
 
 -- the same of words: S, offset and the two points signed, Δt and the samples left plain
 abbrev pub total_of : Edition → ℕ → ℕ → ℕ → ℕ → ℕ → ℕ → ℤ
 total_of edition scale from to step left offset = sum_of edition (signed_of scale) (fraction (signed_of from) (signed_of to) step left) (signed_of offset)
 
-abbrev pub sample_of : Edition → ℕ → ℕ → ℕ → ℕ → ℕ → ℕ → Sum
+abbrev pub sample_of : Edition → ℕ → ℕ → ℕ → ℕ → ℕ → ℕ → Option ℕ
 sample_of edition scale from to step left offset = settled (total_of edition scale from to step left offset)

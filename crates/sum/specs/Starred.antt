@@ -1,27 +1,25 @@
 -- 'Checked examples': the starred cases of samples, one row each; and the cases of document 02, Six.
-use Rattle.std.specs.Prelude.{List, [], ◌∷◌, ℕ, ◌-◌}
+use Rattle.std.specs.Prelude.{List, [], ◌∷◌, ℕ, ◌-◌, Option, Some, None}
 use Rattle.sum.specs.Ramp.{Point, ramp, ramp_steps}
 use Rattle.sum.specs.declared.Edition.TheVariants.{First, Second}
-use Rattle.sum.specs.declared.Sum.{Sum}
-use Rattle.sum.specs.declared.Sum.TheVariants.{Word, Overflow}
 
 -- a ramp's scale word, offset and points, and what it gives: its samples, and T
 pub record Case : Type 0 where
   pub scale : ℕ
   pub offset : ℕ
   pub points : List Point
-  pub samples : List Sum
+  pub samples : List (Option ℕ)
   pub steps : ℕ
 
-abbrev case : ℕ → ℕ → List Point → List Sum → ℕ → Case
+abbrev case : ℕ → ℕ → List Point → List (Option ℕ) → ℕ → Case
 case s o ps g t = record { scale = s; offset = o; points = ps; samples = g; steps = t }
 
 -- a point, a sample's word, and the word of a negative number
 abbrev pt : ℕ → ℕ → Point
 pt v dt = record { value = v; step = dt }
 
-abbrev w : ℕ → Sum
-w n = Word n
+abbrev w : ℕ → Option ℕ
+w n = Some n
 
 abbrev neg : ℕ → ℕ
 neg n = 0x10000 - n
@@ -34,9 +32,9 @@ starred_samples =
     ∷ case 0x0100 0 (pt 0 3 ∷ pt 10 0 ∷ []) (w 0 ∷ w 3 ∷ w 6 ∷ w 10 ∷ []) 3
     ∷ case 0xFF00 0 (pt 0 3 ∷ pt 10 0 ∷ []) (w 0 ∷ w (neg 4) ∷ w (neg 7) ∷ w (neg 10) ∷ []) 3
     ∷ case 0x0200 1 (pt 16383 0 ∷ []) (w 32767 ∷ []) 0
-    ∷ case 0x0200 2 (pt 16383 0 ∷ []) (Overflow ∷ []) 0
+    ∷ case 0x0200 2 (pt 16383 0 ∷ []) (None ∷ []) 0
     ∷ case 0x0200 0 (pt (neg 16384) 0 ∷ []) (w (neg 32768) ∷ []) 0
-    ∷ case 0x0200 (neg 1) (pt (neg 16384) 0 ∷ []) (Overflow ∷ []) 0
+    ∷ case 0x0200 (neg 1) (pt (neg 16384) 0 ∷ []) (None ∷ []) 0
     ∷ case 0x0200 (neg 32767) (pt 32767 0 ∷ []) (w 32767 ∷ []) 0
     ∷ []
 
@@ -48,10 +46,10 @@ samples_given c = case c.scale c.offset c.points (ramp First c.scale c.offset c.
 pub record TwoCase : Type 0 where
   pub scale : ℕ
   pub points : List Point
-  pub first : List Sum
-  pub second : List Sum
+  pub first : List (Option ℕ)
+  pub second : List (Option ℕ)
 
-abbrev two : ℕ → List Point → List Sum → List Sum → TwoCase
+abbrev two : ℕ → List Point → List (Option ℕ) → List (Option ℕ) → TwoCase
 two s ps g h = record { scale = s; points = ps; first = g; second = h }
 
 -- the request's own: 'sample 2 is 13 in edition 1 and 12 in edition 2'. Then, with a factor of 511/256 either way, sample 2 reaches the bound of

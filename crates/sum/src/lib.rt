@@ -3,8 +3,7 @@
 #![tactic(auto)]
 
 ghost use Rattle.std.specs.Prelude.{◌≡◌, ◌*◌, ◌<◌, ◌≤◌, ◌^◌, nat_abs, ◌+ℤ◌, ◌*ℤ◌};
-ghost use Rattle.word.specs.Word.{signed_of, word_of};
-ghost use Rattle.sum.specs.declared.Side.TheVariants.{Within};
+ghost use Rattle.word.specs.Word.{signed_of};
 ghost use Rattle.sum.specs.Floor.{floor};
 ghost use Rattle.sum.specs.Fraction.{above};
 ghost use Rattle.sum.specs.Sample.{sum_of, total_of, side_of, settled, sample_of};
@@ -19,13 +18,6 @@ pub enum Edition {
     Second,
 }
 
-// A sample as a word, or none where the sum is out of range.
-#[derive(Clone, Copy)]
-pub enum Sum {
-    Word(u16),
-    Overflow,
-}
-
 // Where a sum lies: below -32768, from there to 32767, or above.
 #[derive(Clone, Copy)]
 pub enum Side {
@@ -34,8 +26,8 @@ pub enum Side {
     Above,
 }
 
-// The sample with `left` of `step` samples left from the point `from` to the point `to`;
-// a step of 0 ends the ramp at `from`.
+// The sample as a word, or none where its sum is out of range, with `left` of `step` samples left from the point `from` to the point `to`;
+// a step of 0 ends the ramp at `from`. This call and the next are public and keep the paper's quantities as their parameters, one by one.
 pub fn sample(
     edition: Edition,
     scale: u16,
@@ -44,7 +36,7 @@ pub fn sample(
     step: Samples,
     left: Samples,
     offset: u16,
-) -> Sum
+) -> Option<u16>
     ensures { result ≡ sample_of edition scale from to step.0 left.0 offset }
 {
     settle(total(edition, scale, from, to, step, left, offset))
@@ -62,16 +54,17 @@ pub fn total(
 ) -> i64
     ensures { result ≡ total_of edition scale from to step.0 left.0 offset }
 {
-    let d = step.0;
-    let m = left.0;
-    if d == 0 {
-        return raised(scale, number(from), 1, offset);
+    let den = step.0;
+    if den == 0 {
+        let num = number(from);
+        return Fraction { num, den: 1 }.raised(scale, offset);
     }
-    rounded(edition, scale, rise(from, to, d, m), d, offset)
+    let num = rise(from, to, den, left.0);
+    Fraction { num, den }.rounded(edition, scale, offset)
 }
 
 // An amplitude times a wave's word, over 16384: the output in sine mode.
-pub fn product(amplitude: u16, word: i32) -> Sum
+pub fn product(amplitude: u16, word: i32) -> Option<u16>
     ensures { result ≡ product_of amplitude word }
 {
     settle(scaled(amplitude, word))
@@ -81,8 +74,7 @@ pub fn product(amplitude: u16, word: i32) -> Sum
 fn scaled(amplitude: u16, word: i32) -> i64
     ensures { result ≡ scaled_by amplitude word }
 {
-    let a = number(amplitude);
-    floor_div(a * word as i64, 16384)
+    floor_div(number(amplitude) * i64::from(word), 16384)
 }
 
 // The side of the range that a sum lies on.
@@ -91,42 +83,27 @@ pub fn side_of(sum: i64) -> Side
     ensures { result ≡ side_of sum }
 {
     if sum < -32768 {
-        return Side::Below;
+        Side::Below
+    } else if 32767 < sum {
+        Side::Above
+    } else {
+        Side::Within
     }
-    if 32767 < sum {
-        return Side::Above;
-    }
-    Side::Within
 }
 
 // The sample of a sum: only this last sum is checked.
-pub fn settle(sum: i64) -> Sum
+#[tactic(auto, unfolding(crate::specs::Sample::side_of))]
+pub fn settle(sum: i64) -> Option<u16>
     ensures { result ≡ settled sum }
 {
-    match side_of(sum) {
-        Side::Below => Sum::Overflow,
-        Side::Within => Sum::Word(narrow(sum)),
-        Side::Above => Sum::Overflow,
-    }
+    i16::try_from(sum).ok().map(|number| number.cast_unsigned())
 }
 
-// The word of a sum within the range.
-fn narrow(sum: i64) -> u16
-    requires { side_of sum ≡ Within }
-    ensures { result ≡ word_of sum }
-{
-    if sum < 0 {
-        (sum + 0x10000) as u16
-    } else {
-        sum as u16
-    }
-}
-
-// A word's number, with room for products.
+// A word's number, with room for products: one name for the two conversions, which six places need.
 fn number(word: u16) -> i64
     ensures { result ≡ signed_of word }
 {
-    word::signed(word) as i64
+    i64::from(word::signed(word))
 }
 
 // n / d, rounded down.
@@ -134,8 +111,7 @@ fn floor_div(n: i64, d: u32) -> i64
     requires { 0 < d }
     ensures { result ≡ floor n d }
 {
-    let e = d as i64;
-    if n < 0 { -1 - (-1 - n) / e } else { n / e }
+    n.div_euclid(i64::from(d))
 }
 
 // step times f, with `left` samples left to the point `to`.
@@ -144,26 +120,42 @@ fn rise(from: u16, to: u16, step: u16, left: u16) -> i64
 {
     let a = number(from);
     let b = number(to);
-    b * step as i64 - (b - a) * left as i64
+    b * i64::from(step) - (b - a) * i64::from(left)
 }
 
-// The sum of an edition at f = num / den.
-fn rounded(edition: Edition, scale: u16, num: i64, den: u16, offset: u16) -> i64
-    requires { (nat_abs num ≤ 2 ^ 33) × (0 < den) }
-    ensures { result ≡ sum_of edition (signed_of scale) (record { num = num; den = den }) (signed_of offset) }
-{
-    match edition {
-        Edition::First => raised(scale, num, den, offset),
-        Edition::Second => raised(scale, floor_div(num, den as u32), 1, offset),
+// f, an exact fraction.
+#[derive(Clone, Copy)]
+struct Fraction {
+    num: i64,
+    den: u16,
+    ghost bounded: { nat_abs num ≤ 2 ^ 33 },
+    ghost positive: { 0 < den },
+}
+
+impl Fraction {
+    // The sum of an edition at f.
+    fn rounded(self, edition: Edition, scale: u16, offset: u16) -> i64
+        ensures { result ≡ sum_of edition (signed_of scale) (record { num = self.num; den = self.den }) (signed_of offset) }
+    {
+        match edition {
+            Edition::First => self.raised(scale, offset),
+            Edition::Second => self.cut().raised(scale, offset),
+        }
     }
-}
 
-// The sum of f = num / den, rounded once.
-fn raised(scale: u16, num: i64, den: u16, offset: u16) -> i64
-    requires { (nat_abs num ≤ 2 ^ 33) × (0 < den) }
-    ensures { result ≡ floor (signed_of scale *ℤ num) (256 * den) +ℤ signed_of offset }
-{
-    let s = number(scale);
-    let o = number(offset);
-    floor_div(s * num, 256 * den as u32) + o
+    // f, cut to a whole number.
+    fn cut(self) -> Fraction
+        ensures num { result.num ≡ floor self.num self.den }
+        ensures den { result.den ≡ 1 }
+    {
+        let num = floor_div(self.num, u32::from(self.den));
+        Fraction { num, den: 1 }
+    }
+
+    // The sum at f, rounded once.
+    fn raised(self, scale: u16, offset: u16) -> i64
+        ensures { result ≡ floor (signed_of scale *ℤ self.num) (256 * self.den) +ℤ signed_of offset }
+    {
+        floor_div(number(scale) * self.num, 256 * u32::from(self.den)) + number(offset)
+    }
 }

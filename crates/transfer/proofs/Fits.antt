@@ -1,8 +1,9 @@
 -- A word that is kept has its place: every address that keeps one lies among the settings lent. Assumes nothing.
 use mathlib.Core.Path.{◌≡◌, refl}
-use mathlib.Core.Bool.{Bool, true, false, cond}
+use mathlib.Core.Bool.{true}
 use Prim.Native.Nat.{ℕ, ◌<◌}
 use lib.Dec.{eqb}
+use Rattle.std.proofs.lemmas.Bool.{cond_both}
 use Rattle.map.specs.declared.Register.{Register}
 use Rattle.map.specs.declared.Register.TheVariants as R
 use Rattle.map.specs.Map.{named, register_of}
@@ -14,10 +15,6 @@ use Rattle.transfer.specs.Word.{effect_of, Fits}
 pub fits : (a v : ℕ) → Fits a (effect_of (register_of a) v)
 fits a v = go (register_of a) (named_below a)
   where
-    by : (b : Bool) → Fits a (cond b Erase Nothing)
-    by true = tt
-    by false = tt
-
     go : (r : Register) → (named r ≡ true → a < 16960) → Fits a (effect_of r v)
     go (R.Setting s) h = h refl
     go (R.Fixed s) h = tt
@@ -26,7 +23,7 @@ fits a v = go (register_of a) (named_below a)
     go (R.Overflow c) h = tt
     go (R.Slot l) h = h refl
     go (R.Image e) h = tt
-    go R.Erase h = by (eqb v 1)
+    go R.Erase h = cond_both (eqb v 1) Erase Nothing (Fits a) (λ _. tt) (λ _. tt)
     go R.Manual h = tt
     go R.ActiveLevel h = tt
     go R.ActiveEvent h = tt

@@ -1,4 +1,3 @@
-pub mod Arms
 pub mod Loops
 pub mod Fits
 pub mod Stops

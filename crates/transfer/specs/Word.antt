@@ -1,5 +1,5 @@
 -- One word of a transfer: whether it may be written, what it does, and what is read.
-use Rattle.std.specs.Prelude.{◌≡◌, Bool, true, false, not, ◌&&◌, cond, List, ℕ, ◌<◌, eqb, set}
+use Rattle.std.specs.Prelude.{◌≡◌, Bool, true, false, not, ◌&&◌, cond, List, ℕ, ◌<◌, eqb, set, Option, Some, None, Result, Ok, Err}
 use Rattle.map.specs.declared.Field.{Field}
 use Rattle.map.specs.declared.Field.TheVariants as F
 use Rattle.map.specs.declared.Register.{Register}
@@ -7,8 +7,6 @@ use Rattle.map.specs.declared.Register.TheVariants as R
 use Rattle.map.specs.Map.{register_of}
 use Rattle.map.specs.Register.{allowed}
 use Rattle.map.specs.Settings.{is_fixed}
-use Rattle.slots.specs.declared.Holder.{Holder}
-use Rattle.slots.specs.declared.Holder.TheVariants.{Level, Nobody}
 use Rattle.slots.specs.Slots.{other_of, image_of, erased}
 use Rattle.channel.specs.declared.Channel.{Channel}
 use Rattle.channel.specs.Channel.{word, runs_of, output_to, overflow_cleared}
@@ -16,20 +14,18 @@ use Rattle.card.specs.declared.Card.{Card}
 use Rattle.card.specs.Card.{State, state, channel_of, with_channel, count_of, with_count}
 use Rattle.card.specs.Trigger.{trigger_of}
 use Rattle.transfer.specs.declared.Why.TheVariants.{Fixed, Value, Held, Running}
-use Rattle.transfer.specs.declared.Verdict.{Verdict}
-use Rattle.transfer.specs.declared.Verdict.TheVariants.{Accepted, Refused}
-use Rattle.transfer.specs.declared.Stepped.{Stepped}
 use Rattle.transfer.specs.declared.Effect.{Effect}
 use Rattle.transfer.specs.declared.Effect.TheVariants.{Keep, Output, ClearOverflow, ClearCount, Erase, Trigger, Nothing}
+use Rattle.transfer.specs.declared.Why.{Why}
 
 -- ---- whether a word may be written: numbers 5 to 8, in their order
 
 -- 5, 'write to a fixed word, whatever the value', is `is_fixed` of the map
 
 -- 7: 'event held by another level'; 0xFE is null and empties the slot
-abbrev pub is_level : Holder → Bool
-is_level (Level l) = true
-is_level Nobody = false
+abbrev pub is_level : Option ℕ → Bool
+is_level (Some l) = true
+is_level None = false
 
 abbrev pub held_at : List ℕ → Register → ℕ → Bool
 held_at s (R.Setting x) v = false
@@ -63,13 +59,13 @@ running_at k (R.Count l) = false
 running_at k R.Unlisted = false
 
 -- what the register allows is what the map accepts at its address (`accepted_is` of `map`)
-unfoldable pub judge_of : List ℕ → Card → Register → ℕ → Verdict
+unfoldable pub judge_of : List ℕ → Card → Register → ℕ → Result Unit Why
 judge_of s k r v =
-    cond (is_fixed r) (Refused Fixed)
-    (cond (not (allowed r v)) (Refused Value)
-    (cond (held_at s r v) (Refused Held)
-    (cond (running_at k r) (Refused Running)
-    Accepted)))
+    cond (is_fixed r) (Err Fixed)
+    (cond (not (allowed r v)) (Err Value)
+    (cond (held_at s r v) (Err Held)
+    (cond (running_at k r) (Err Running)
+    (Ok tt))))
 
 -- ---- what an accepted word does: all that a write can do
 
@@ -111,22 +107,21 @@ Fits a Nothing = Unit
 -- one word written: its verdict, and the state after it
 pub record One : Type 0 where
   pub state : State
-  pub verdict : Verdict
+  pub verdict : Result Unit Why
 
-abbrev pub one : State → Verdict → One
+abbrev pub one : State → Result Unit Why → One
 one st d = record { state = st; verdict = d }
 
-abbrev pub on_verdict : Verdict → State → ℕ → ℕ → One
-on_verdict Accepted st a v = one (perform_of st a (effect_of (register_of a) v)) Accepted
-on_verdict (Refused why) st a v = one st (Refused why)
+abbrev pub on_verdict : Result Unit Why → State → ℕ → ℕ → One
+on_verdict (Ok tt) st a v = one (perform_of st a (effect_of (register_of a) v)) (Ok tt)
+on_verdict (Err why) st a v = one st (Err why)
 
 unfoldable pub write_word : State → ℕ → ℕ → One
 write_word st a v = on_verdict (judge_of st.settings st.card (register_of a) v) st a v
 
--- the card and the verdict handed back, the settings and the tables left
-abbrev pub Steps : One → Stepped → List ℕ → List ℕ → Type 0
-Steps o r settings tables =
-    (r.card ≡ o.state.card) × (r.verdict ≡ o.verdict) × (settings ≡ o.state.settings) × (tables ≡ o.state.tables)
+-- the card, the settings and the tables left, and the verdict handed back
+abbrev pub Steps : One → Card → Result Unit Why → List ℕ → List ℕ → Type 0
+Steps o k d settings tables = (k ≡ o.state.card) × (d ≡ o.verdict) × (settings ≡ o.state.settings) × (tables ≡ o.state.tables)
 
 -- ---- what is read
 

@@ -1,17 +1,17 @@
-// Transfers: words written to the card and read from it, by address, with the paper's numbers.
+// Transfers: words written to the card and read from it, by address, with the paper's numbers. What a function may change it is lent piece by
+// piece, so that its type says it: `&mut` for what it may, `&` for what stays.
 #![tactic(auto)]
 
-ghost use Rattle.std.specs.Prelude.{◌≡◌, ◌+◌, ◌≤◌, ◌<◌, take, length};
-ghost use Rattle.map.specs.Settings.{is_fixed};
+ghost use Rattle.std.specs.Prelude.{◌≡◌, ◌+◌, ◌≤◌, ◌<◌, take, length, cond, Err, ok_or};
+ghost use Rattle.map.specs.Map.{region_of};
 ghost use Rattle.channel.specs.Channel.{output_to, overflow_cleared};
 ghost use Rattle.card.specs.Card.{before, LeavesWhole};
 ghost use Rattle.transfer.specs.Word.{Fits, Steps, held_at, running_at, judge_of, effect_of, perform_of, write_word, status_of, read_word};
 ghost use Rattle.transfer.specs.Transfer.{why_number, number_of, processed_of, reply_of, bad_count, writable, readable, write_words, write_of, Ends, Wrote, read_words, read_of, Fills, Reads};
 
 use card::Card;
-use channel::{Channel, Shown, Signal};
-use map::{Access, Field, Found, Register};
-use slots::Holder;
+use channel::Channel;
+use map::{Access, Field, Region, Register};
 
 // Why a word is refused.
 #[derive(Clone, Copy)]
@@ -22,13 +22,22 @@ pub enum Why {
     Running,
 }
 
-#[derive(Clone, Copy)]
-pub enum Verdict {
-    Accepted,
-    Refused(Why),
+impl Why {
+    // Document 01's numbers.
+    fn number(self) -> u16
+        ensures { result ≡ why_number self }
+    {
+        match self {
+            Why::Fixed => 5,
+            Why::Value => 6,
+            Why::Held => 7,
+            Why::Running => 8,
+        }
+    }
 }
 
-// What an accepted word does: all that a write can do.
+// What an accepted word does: all that a write can do. Nothing is one of the kinds: a 0 written to 0x4201 is accepted, and does
+// nothing; an Option round them would put a Some round each other arm.
 #[derive(Clone, Copy)]
 pub enum Effect {
     // The word at the address becomes this.
@@ -43,21 +52,20 @@ pub enum Effect {
     Nothing,
 }
 
-// The answer of a transfer; what it carries is the words processed.
+// Why a transfer stops before its last word; what it carries is the words processed.
 #[derive(Clone, Copy)]
-pub enum Answer {
-    Done(usize),
+pub enum Refusal {
     BadCount,
     NoRegion,
     NoAccess,
     Beyond(usize),
-    Refused(Why, usize),
+    Word(Why, usize),
 }
 
-// What a transfer says: the answer, and the address of the first word not done.
+// What a transfer says: the words processed, all of them or as many as were before a refusal, and the address of the first word not done.
 #[derive(Clone, Copy)]
 pub struct Reply {
-    pub answer: Answer,
+    pub answer: Result<usize, Refusal>,
     pub address: u16,
 }
 
@@ -67,41 +75,27 @@ pub struct Written {
     pub reply: Reply,
 }
 
-// The card after the words of a write, and their answer.
-#[derive(Clone, Copy)]
-struct Outcome {
-    card: Card,
-    answer: Answer,
-}
-
-// The card after one word, and whether the word was done.
-#[derive(Clone, Copy)]
-pub struct Stepped {
-    pub card: Card,
-    pub verdict: Verdict,
-}
-
-// A write of the first `count` words from an address on.
+// A write of the first `count` words from an address on. The count stands beside the slice, since one above its length is number 1.
+#[tactic(auto, using(crate::proofs::Stops::write_fits))]
 pub fn write(
     settings: &mut [u16; 16960],
     tables: &mut [u16; 512],
-    card: Card,
+    mut card: Card,
     start: u16,
     count: usize,
     words: &[u16],
 ) -> Written
     ensures { Wrote (before card settings.old tables.old) start count words.now result settings.new tables.new }
 {
-    let w = write_from(settings, tables, card, start, count, words);
-    let k = w.card;
-    let answer = w.answer;
+    let answer = write_from(settings, tables, &mut card, start, count, words);
     Written {
-        card: k,
+        card,
         reply: replied(start, answer),
     }
 }
 
-// A read of `count` words from an address on, into the first words of the slice.
+// A read of `count` words from an address on, into the first words of the slice. The count stands beside it as in a write.
+#[tactic(auto, using(crate::proofs::Stops::read_fits))]
 pub fn read(
     settings: &[u16; 16960],
     card: Card,
@@ -114,263 +108,182 @@ pub fn read(
     replied(start, read_from(settings, card, start, count, words))
 }
 
-// The paper's number of an answer.
-pub fn number(answer: Answer) -> u16
+// The paper's number of an answer: 0 is that of no refusal, so it is made of the whole answer. Public, with a row in docs/PROMISES.md.
+pub fn number(answer: Result<usize, Refusal>) -> u16
     ensures { result ≡ number_of answer }
 {
     match answer {
-        Answer::Done(_) => 0,
-        Answer::BadCount => 1,
-        Answer::NoRegion => 2,
-        Answer::NoAccess => 3,
-        Answer::Beyond(_) => 4,
-        Answer::Refused(why, _) => why_number(why),
+        Ok(_) => 0,
+        Err(Refusal::BadCount) => 1,
+        Err(Refusal::NoRegion) => 2,
+        Err(Refusal::NoAccess) => 3,
+        Err(Refusal::Beyond(_)) => 4,
+        Err(Refusal::Word(why, _)) => why.number(),
     }
 }
 
 // The words processed.
-pub fn processed(answer: Answer) -> usize
+pub fn processed(answer: Result<usize, Refusal>) -> usize
     ensures { result ≡ processed_of answer }
 {
     match answer {
-        Answer::Done(n) => n,
-        Answer::BadCount => 0,
-        Answer::NoRegion => 0,
-        Answer::NoAccess => 0,
-        Answer::Beyond(n) => n,
-        Answer::Refused(_, n) => n,
-    }
-}
-
-fn why_number(why: Why) -> u16
-    ensures { result ≡ why_number why }
-{
-    match why {
-        Why::Fixed => 5,
-        Why::Value => 6,
-        Why::Held => 7,
-        Why::Running => 8,
+        Ok(n) | Err(Refusal::Beyond(n)) | Err(Refusal::Word(_, n)) => n,
+        Err(_) => 0,
     }
 }
 
 // The answer with its address, which lies as many words past the start as are done.
-fn replied(start: u16, answer: Answer) -> Reply
+fn replied(start: u16, answer: Result<usize, Refusal>) -> Reply
     requires { start + processed_of answer < 65536 }
     ensures { result ≡ reply_of start answer }
 {
-    let n = processed(answer);
     Reply {
-        answer: answer,
-        address: start + n as u16,
+        answer,
+        address: start + processed(answer) as u16,
     }
 }
 
-// The words of a write: numbers 1, 2 and 3 once, then word by word.
+// The words of a write: numbers 1, 2 and 3 once, then word by word. This and the three that it leads to take settings, tables and card apart:
+// with a struct of three references each clause and each call would name the same three.
+#[tactic(auto, unfolding(crate::specs::Transfer::write_of))]
 fn write_from(
     settings: &mut [u16; 16960],
     tables: &mut [u16; 512],
-    card: Card,
+    card: &mut Card,
     start: u16,
     count: usize,
     words: &[u16],
-) -> Outcome
-    ensures { Ends (write_of (before card settings.old tables.old) start count words.now) result settings.new tables.new }
+) -> Result<usize, Refusal>
+    ensures { Ends (write_of (before card.old settings.old tables.old) start count words.now) card.new result settings.new tables.new }
 {
-    if bad_count(count, words.len()) {
-        return ended(card, Answer::BadCount);
+    let region = entry(start, count, words.len())?;
+    if !may_write(region.access) {
+        return Err(Refusal::NoAccess);
     }
-    match regions::region_of(start) {
-        Found::Nothing => ended(card, Answer::NoRegion),
-        Found::At(r) => {
-            let access = r.access;
-            if may_write(access) {
-                write_words(settings, tables, card, start, r.last, words, count)
-            } else {
-                ended(card, Answer::NoAccess)
-            }
-        }
-    }
+    write_words(settings, tables, card, start, region.last, &words[..count])
 }
 
 // The words of a read: the same, into the slice.
+#[tactic(auto, using(crate::proofs::Loops::read_by_entry))]
 fn read_from(
     settings: &[u16; 16960],
     card: Card,
     start: u16,
     count: usize,
     words: &mut [u16],
-) -> Answer
+) -> Result<usize, Refusal>
     ensures { Fills (read_of settings.now card start count words.old) result words.new }
 {
-    if bad_count(count, words.len()) {
-        return Answer::BadCount;
+    let region = entry(start, count, words.len())?;
+    if !may_read(region.access) {
+        return Err(Refusal::NoAccess);
     }
-    match regions::region_of(start) {
-        Found::Nothing => Answer::NoRegion,
-        Found::At(r) => {
-            let access = r.access;
-            if may_read(access) {
-                read_words(settings, card, start, r.last, words, count)
-            } else {
-                Answer::NoAccess
-            }
-        }
-    }
+    read_words(settings, card, start, region.last, &mut words[..count])
 }
 
-fn bad_count(count: usize, len: usize) -> bool
-    ensures { result ≡ bad_count count len }
+// Numbers 1 and 2: the region of the start, where the count is good and there is one.
+fn entry(start: u16, count: usize, len: usize) -> Result<Region, Refusal>
+    ensures { result ≡ cond (bad_count count len) (Err Refusal.BadCount) (ok_or (region_of start) Refusal.NoRegion) }
 {
-    if count == 0 {
-        return true;
+    if count == 0 || 16381 < count || len < count {
+        return Err(Refusal::BadCount);
     }
-    if 16381 < count {
-        return true;
-    }
-    len < count
+    regions::region_of(start).ok_or(Refusal::NoRegion)
 }
 
+// Number 3: what the region lets be done. Here, and not methods of `Access`, whose crate knows of no transfer.
 fn may_write(access: Access) -> bool
     ensures { result ≡ writable access }
 {
-    match access {
-        Access::ReadWrite => true,
-        Access::Read => false,
-        Access::Write => true,
-    }
+    matches!(access, Access::ReadWrite | Access::Write)
 }
 
 fn may_read(access: Access) -> bool
     ensures { result ≡ readable access }
 {
-    match access {
-        Access::ReadWrite => true,
-        Access::Read => true,
-        Access::Write => false,
-    }
-}
-
-// What the words of a write come to.
-fn ended(card: Card, answer: Answer) -> Outcome
-    ensures { result ≡ record { card = card; answer = answer } }
-{
-    Outcome {
-        card: card,
-        answer: answer,
-    }
+    matches!(access, Access::ReadWrite | Access::Read)
 }
 
 // The words written one after the other, in a region up to `last`.
+#[tactic(auto, using(crate::proofs::Loops::write_end, crate::proofs::Loops::write_beyond, crate::proofs::Loops::write_one))]
 fn write_words(
     settings: &mut [u16; 16960],
     tables: &mut [u16; 512],
-    card: Card,
+    card: &mut Card,
     start: u16,
     last: u16,
     words: &[u16],
-    count: usize,
-) -> Outcome
-    requires { (count ≤ length words.now) × (count ≤ 16381) }
-    ensures { Ends (write_words (before card settings.old tables.old) start last 0 (take count words.now)) result settings.new tables.new }
+) -> Result<usize, Refusal>
+    requires { length words.now ≤ 16381 }
+    ensures { Ends (write_words (before card.old settings.old tables.old) start last 0 words.now) card.new result settings.new tables.new }
 {
-    let mut k = card;
-    let mut i: usize = 0;
-    while i < count {
-        let a = start as usize + i;
-        if (last as usize) < a {
-            return ended(k, Answer::Beyond(i));
+    for (i, word) in words.iter().enumerate() {
+        let a = usize::from(start) + i;
+        if usize::from(last) < a {
+            return Err(Refusal::Beyond(i));
         }
-        let w = write_word(settings, tables, k, a as u16, word::get(words, i));
-        k = w.card;
-        let v = w.verdict;
-        match v {
-            Verdict::Accepted => {}
-            Verdict::Refused(why) => {
-                return ended(k, Answer::Refused(why, i));
-            }
-        }
-        i = i + 1;
+        write_word(settings, tables, card, a as u16, *word).map_err(|why| Refusal::Word(why, i))?;
     }
-    ended(k, Answer::Done(count))
+    Ok(words.len())
 }
 
-// The words read one after the other.
+// The words read one after the other. By place: the edit *fills_first_place* turns which word a step fills.
+#[tactic(auto, using(crate::proofs::Loops::read_end, crate::proofs::Loops::read_beyond, crate::proofs::Loops::read_on))]
 fn read_words(
     settings: &[u16; 16960],
     card: Card,
     start: u16,
     last: u16,
     words: &mut [u16],
-    count: usize,
-) -> Answer
-    requires { count ≤ 16381 }
-    ensures { Fills (read_words settings.now card start last 0 count words.old) result words.new }
+) -> Result<usize, Refusal>
+    requires { length words.old ≤ 16381 }
+    ensures { Fills (read_words settings.now card start last 0 (length words.old) words.old) result words.new }
 {
-    let mut i: usize = 0;
-    while i < count {
-        let a = start as usize + i;
-        if (last as usize) < a {
-            return Answer::Beyond(i);
+    for i in 0..words.len() {
+        let a = usize::from(start) + i;
+        if usize::from(last) < a {
+            return Err(Refusal::Beyond(i));
         }
-        word::put(words, i, read_word(settings, card, a as u16));
-        i = i + 1;
+        words[i] = read_word(settings, card, a as u16);
     }
-    Answer::Done(count)
+    Ok(words.len())
 }
 
 // One word: judged, and done if it is accepted.
+#[tactic(auto, using(crate::proofs::Fits::fits), unfolding(crate::specs::Word::write_word))]
 fn write_word(
     settings: &mut [u16; 16960],
     tables: &mut [u16; 512],
-    card: Card,
+    card: &mut Card,
     address: u16,
     value: u16,
-) -> Stepped
-    ensures { Steps (write_word (before card settings.old tables.old) address value) result settings.new tables.new }
+) -> Result<(), Why>
+    ensures { Steps (write_word (before card.old settings.old tables.old) address value) card.new result settings.new tables.new }
 {
     let register = map::register_at(address);
-    let verdict = judge(settings, card, register, value);
-    match verdict {
-        Verdict::Accepted => {
-            let k = perform(settings, tables, card, address, effect_of(register, value));
-            Stepped {
-                card: k,
-                verdict: Verdict::Accepted,
-            }
-        }
-        Verdict::Refused(why) => Stepped {
-            card: card,
-            verdict: Verdict::Refused(why),
-        },
-    }
+    judge(settings, card, register, value)?;
+    perform(settings, tables, card, address, effect_of(register, value));
+    Ok(())
 }
 
 // Whether a word may be written, in the paper's order.
 #[tactic(auto, unfolding(crate::specs::Word::judge_of))]
-fn judge(settings: &[u16; 16960], card: Card, register: Register, value: u16) -> Verdict
-    ensures { result ≡ judge_of settings.now card register value }
+fn judge(settings: &[u16; 16960], card: &Card, register: Register, value: u16) -> Result<(), Why>
+    ensures { result ≡ judge_of settings.now card.now register value }
 {
-    if is_fixed(register) {
-        return Verdict::Refused(Why::Fixed);
+    if matches!(register, Register::Fixed(_)) {
+        return Err(Why::Fixed);
     }
-    if map::allows(register, value) {
-        if is_held(settings, register, value) {
-            return Verdict::Refused(Why::Held);
-        }
-        if is_running(card, register) {
-            return Verdict::Refused(Why::Running);
-        }
-        return Verdict::Accepted;
+    if !map::allows(register, value) {
+        return Err(Why::Value);
     }
-    Verdict::Refused(Why::Value)
-}
-
-fn is_fixed(register: Register) -> bool
-    ensures { result ≡ is_fixed register }
-{
-    match register {
-        Register::Fixed(_) => true,
-        _ => false,
+    if is_held(settings, register, value) {
+        return Err(Why::Held);
+    }
+    if is_running(card, register) {
+        Err(Why::Running)
+    } else {
+        Ok(())
     }
 }
 
@@ -379,31 +292,18 @@ fn is_held(settings: &[u16; 16960], register: Register, value: u16) -> bool
     ensures { result ≡ held_at settings.now register value }
 {
     match register {
-        Register::Slot(level) => held_elsewhere(settings, level, value),
+        Register::Slot(level) => {
+            value != 0xFE && slots::held_elsewhere(settings, value, level).is_some()
+        }
         _ => false,
-    }
-}
-
-fn held_elsewhere(settings: &[u16; 16960], level: usize, value: u16) -> bool
-    ensures { result ≡ held_at settings.now (Register.Slot level) value }
-{
-    if value == 0xFE {
-        return false;
-    }
-    match slots::held_elsewhere(settings, value, level) {
-        Holder::Level(_) => true,
-        Holder::Nobody => false,
     }
 }
 
 // A ramp runs or free-runs on the channel whose output this is.
-fn is_running(card: Card, register: Register) -> bool
-    ensures { result ≡ running_at card register }
+fn is_running(card: &Card, register: Register) -> bool
+    ensures { result ≡ running_at card.now register }
 {
-    match register {
-        Register::Output(c) => channel::runs(card::channel_of(card, c)),
-        _ => false,
-    }
+    matches!(register, Register::Output(c) if channel::runs(card::channel_of(*card, c)))
 }
 
 // What an accepted word does at a register.
@@ -414,13 +314,7 @@ fn effect_of(register: Register, value: u16) -> Effect
         Register::Setting(_) | Register::Slot(_) => Effect::Keep(value),
         Register::Output(c) => Effect::Output(c, value),
         Register::Overflow(c) => Effect::ClearOverflow(c),
-        Register::Erase => {
-            if value == 1 {
-                Effect::Erase
-            } else {
-                Effect::Nothing
-            }
-        }
+        Register::Erase if value == 1 => Effect::Erase,
         Register::Manual => Effect::Trigger(value),
         Register::Count(level) => Effect::ClearCount(level),
         _ => Effect::Nothing,
@@ -432,80 +326,42 @@ fn effect_of(register: Register, value: u16) -> Effect
 fn perform(
     settings: &mut [u16; 16960],
     tables: &mut [u16; 512],
-    card: Card,
+    card: &mut Card,
     address: u16,
     effect: Effect,
-) -> Card
+)
     requires { Fits address effect }
-    ensures { LeavesWhole (perform_of (before card settings.old tables.old) address effect) result settings.new tables.new }
+    ensures { LeavesWhole (perform_of (before card.old settings.old tables.old) address effect) card.new settings.new tables.new }
 {
     match effect {
-        Effect::Keep(v) => {
-            settings[address as usize] = v;
-            card
+        Effect::Keep(v) => settings[usize::from(address)] = v,
+        Effect::Output(c, v) => {
+            *card = card::with_channel(*card, c, output_to(card::channel_of(*card, c), v));
         }
-        Effect::Output(c, v) => card::with_channel(
-            card,
-            c,
-            output_to(card::channel_of(card, c), v),
-        ),
-        Effect::ClearOverflow(c) => card::with_channel(
-            card,
-            c,
-            overflow_cleared(card::channel_of(card, c)),
-        ),
-        Effect::ClearCount(level) => card::with_count(card, level, 0),
-        Effect::Erase => {
-            slots::erase(settings);
-            card
+        Effect::ClearOverflow(c) => {
+            *card = card::with_channel(*card, c, overflow_cleared(card::channel_of(*card, c)));
         }
-        Effect::Trigger(level) => card::trigger(settings, tables, card, level, 0xFE),
-        Effect::Nothing => card,
+        Effect::ClearCount(level) => *card = card::with_count(*card, level, 0),
+        Effect::Erase => slots::erase(settings),
+        Effect::Trigger(level) => *card = card::trigger(settings, tables, *card, level, 0xFE),
+        Effect::Nothing => {}
     }
 }
 
 // The output and the amplitude become v.
-fn output_to(ch: Channel, v: u16) -> Channel
+fn output_to(mut ch: Channel, v: u16) -> Channel
     ensures { result ≡ output_to ch v }
 {
-    let phase = ch.phase;
-    let loaded = ch.loaded;
-    let place = ch.shown.place;
-    let signal = ch.signal;
-    Channel {
-        phase: phase,
-        level: ch.level,
-        loaded: loaded,
-        shown: Shown {
-            amplitude: v,
-            place: place,
-        },
-        signal: Signal {
-            output: v,
-            overflow: signal.overflow,
-            counter: signal.counter,
-        },
-    }
+    ch.shown.amplitude = v;
+    ch.signal.output = v;
+    ch
 }
 
-fn overflow_cleared(ch: Channel) -> Channel
+fn overflow_cleared(mut ch: Channel) -> Channel
     ensures { result ≡ overflow_cleared ch }
 {
-    let phase = ch.phase;
-    let loaded = ch.loaded;
-    let shown = ch.shown;
-    let signal = ch.signal;
-    Channel {
-        phase: phase,
-        level: ch.level,
-        loaded: loaded,
-        shown: shown,
-        signal: Signal {
-            output: signal.output,
-            overflow: 0,
-            counter: signal.counter,
-        },
-    }
+    ch.signal.overflow = 0;
+    ch
 }
 
 // The word that is read at an address.
@@ -514,29 +370,17 @@ fn read_word(settings: &[u16; 16960], card: Card, address: u16) -> u16
 {
     match map::register_at(address) {
         Register::Setting(_) | Register::Fixed(_) | Register::Slot(_) => {
-            word::get(settings, address as usize)
+            word::get(settings, usize::from(address))
         }
-        Register::Output(c) => output_of(card::channel_of(card, c)),
+        Register::Output(c) => card::channel_of(card, c).signal.output,
         Register::Status(c, f) => status_of(card::channel_of(card, c), f),
-        Register::Overflow(c) => overflow_of(card::channel_of(card, c)),
+        Register::Overflow(c) => card::channel_of(card, c).signal.overflow,
         Register::Image(e) => slots::image(settings, e),
         Register::ActiveLevel => card.active.level,
         Register::ActiveEvent => card.active.event,
         Register::Count(level) => card::count_of(card, level),
         _ => 0,
     }
-}
-
-fn output_of(ch: Channel) -> u16
-    ensures { result ≡ ch.signal.output }
-{
-    ch.signal.output
-}
-
-fn overflow_of(ch: Channel) -> u16
-    ensures { result ≡ ch.signal.overflow }
-{
-    ch.signal.overflow
 }
 
 // A channel's words that are only read.

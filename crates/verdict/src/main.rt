@@ -4,131 +4,86 @@
 
 ghost use Rattle.std.specs.Prelude.{◌≤◌, length};
 
-use card::Card;
-use profile::{Break, Verdict};
+use profile::Break;
 use std::io::{Print, Read};
-use std::rt::{Stderr, Stdin, Stdout};
+use std::rt::{Stdin, Stdout};
+use std::{fmt, io};
 
-// Where the verdict goes, and where a word is said of what failed.
+// Why no verdict is said.
 #[derive(Clone, Copy)]
-struct Streams {
-    verdict: Stdout,
-    words: Stderr,
+enum Failure {
+    Bench,
+    Output,
 }
 
-// The lent words and buffers, and the bench.
+impl fmt::Display for Failure {
+    fn fmt<W: fmt::Write>(&self, f: &mut fmt::Formatter<W>) -> fmt::Result {
+        f.write_str(match self {
+            Failure::Bench => "no saved bench came in; nothing is checked",
+            Failure::Output => "standard output cannot be written",
+        })
+    }
+}
+
+// The verdict on the bench. Why there is none is told on standard error, under the name of `./start --check`; where that cannot be written
+// there is nobody to tell.
 fn main(rt: HostRuntime) {
-    let mut settings = [0u16; 16960];
-    let mut tables = [0u16; 512];
-    let mut waves = [0u16; 4096];
-    let mut line = [0u8; 263];
-    let mut bench = [0u8; 65536];
-    let mut out = [0u8; 65536];
-    let n = read_full(rt.stdin(), &mut bench);
-    let streams = Streams {
-        verdict: rt.stdout(),
-        words: rt.stderr(),
-    };
-    let k = line::start(&mut settings, &mut tables, &mut waves);
-    judge(
-        streams,
+    let mut buffer = [0; 65536];
+    let bench = read_full(rt.stdin(), &mut buffer);
+    if let Err(failure) = judge(rt.stdout(), bench) {
+        let _ = eprintln!(rt; "check: {failure}");
+    }
+}
+
+// The bytes that come until the buffer is full, the input ends or a read fails. By place: each read moves it as far as it likes.
+fn read_full(mut input: Stdin, buffer: &mut [u8]) -> &[u8]
+    ensures { length result.now ≤ length buffer.old }
+{
+    let mut done = 0;
+    while done < buffer.len() {
+        match input.read(&mut buffer[done..]) {
+            Ok(0) | Err(_) => break,
+            Ok(n) => done += n,
+        }
+    }
+    &buffer[..done]
+}
+
+// Says the verdict on the bench, if it is a saved one.
+fn judge(output: Stdout, bench: &[u8]) -> Result<(), Failure> {
+    let settings = settings_of(bench).ok_or(Failure::Bench)?;
+    say(output, profile::check(&settings)).map_err(|_| Failure::Output)
+}
+
+// The settings of a card on which the bench was played, if they are these bytes when they are saved.
+fn settings_of(bench: &[u8]) -> Option<[u16; 16960]> {
+    let mut settings = [0; 16960];
+    let mut tables = [0; 512];
+    let mut waves = [0; 4096];
+    let mut line = [0; 263];
+    let mut out = [0; 65536];
+    let card = line::start(&mut settings, &mut tables, &mut waves);
+    line::feed(
         &mut settings,
         &mut tables,
         &waves,
         &mut line,
         &mut out,
-        k,
-        &bench[..n],
+        card,
+        0,
+        bench,
     );
+    let n = saved::written(saved::save(&settings, &mut out)).min(out.len());
+    (bench == &out[..n]).then_some(settings)
 }
 
-// Reads until the buffer is full, the input ends or a read fails; how many bytes came.
-fn read_full(bench: Stdin, buffer: &mut [u8]) -> usize
-    ensures { result ≤ length buffer.new }
-{
-    let mut input = bench;
-    let mut done: usize = 0;
-    while done < buffer.len() {
-        match input.read(&mut buffer[done..]) {
-            Ok(n) => {
-                if n == 0 {
-                    return done;
-                }
-                done = done + n;
-            }
-            Err(_) => return done,
-        }
-    }
-    done
-}
-
-// Plays the bench and says the verdict, if it is a saved one.
-fn judge(
-    streams: Streams,
-    settings: &mut [u16; 16960],
-    tables: &mut [u16; 512],
-    waves: &[u16; 4096],
-    line: &mut [u8; 263],
-    out: &mut [u8],
-    card: Card,
-    bench: &[u8],
-) {
-    line::feed(settings, tables, waves, line, out, card, 0, bench);
-    if !saves_as(settings, out, bench) {
-        complain(
-            streams,
-            b"check: no saved bench came in; nothing is checked\n",
-        );
-        return;
-    }
-    if !say(streams, profile::check(settings)) {
-        complain(streams, b"check: standard output cannot be written\n");
-    }
-}
-
-// Whether the settings, saved, are these bytes.
-fn saves_as(settings: &[u16; 16960], out: &mut [u8], bench: &[u8]) -> bool {
-    let saved = saved::save(settings, out);
-    let n = word::least(saved::written(saved), out.len());
-    check::same(bench, &out[..n])
-}
-
-// The verdict in words, or that they cannot be written.
-fn say(streams: Streams, verdict: Verdict) -> bool {
+// The verdict in words: the ramp that breaks the profile, and its first point that does.
+fn say(output: Stdout, verdict: Result<(), Break>) -> io::Result<()> {
     match verdict {
-        Verdict::Passes => tell(
-            streams,
-            b"the bench passes: every sum of every ramp is in range\n",
+        Ok(()) => println!(output; "the bench passes: every sum of every ramp is in range"),
+        Err(b) => println!(output;
+            "the bench breaks the profile, first at channel {}, level {}: the sum at point {} of table {} is out of range",
+            b.channel, b.level, b.point, b.table
         ),
-        Verdict::Breaks(b) => name(streams, b),
     }
-}
-
-// The ramp that breaks the profile, and its first point that does.
-fn name(streams: Streams, b: Break) -> bool {
-    if !tell(streams, b"the bench breaks the profile, first at channel ") {
-        return false;
-    }
-    number(streams, b.channel);
-    tell(streams, b", level ");
-    number(streams, b.level);
-    tell(streams, b": the sum at point ");
-    number(streams, b.point);
-    tell(streams, b" of table ");
-    number(streams, b.table);
-    tell(streams, b" is out of range\n")
-}
-
-// A number, or words, on standard output.
-fn number(streams: Streams, n: u16) -> bool {
-    streams.verdict.print(n).is_ok()
-}
-
-fn tell(streams: Streams, words: &[u8]) -> bool {
-    streams.verdict.write_all(words).is_ok()
-}
-
-// Words on standard error; where they cannot be written there is nobody to tell.
-fn complain(streams: Streams, words: &[u8]) {
-    let _told = streams.words.write_all(words).is_ok();
 }

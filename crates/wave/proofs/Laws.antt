@@ -1,5 +1,6 @@
 -- The laws of the sine and of the quarter wave: each product but the lowest words' is below 32768 × 16384, by the four cases of signs,
 -- and the quarters are equations of the counter's quotients, by its bit 14. Assumes nothing.
+use Rattle.std.specs.Prelude.{None}
 use mathlib.Core.Path.{◌≡◌, sym, ap, ◌∙◌}
 use mathlib.Core.Bool.{Bool, true, false, cond}
 use mathlib.Core.List.{List}
@@ -13,7 +14,6 @@ use Rattle.word.proofs.Sizes.{sub_ind}
 use Rattle.word.proofs.Split.{up, dn, up_neg, dn_neg, of_mul, le_split, le_join}
 use Rattle.word.proofs.Number.{low, negative, halves}
 use Rattle.sum.specs.declared.Side.TheVariants.{Within}
-use Rattle.sum.specs.declared.Sum.TheVariants.{Overflow}
 use Rattle.sum.specs.Floor.{floor}
 use Rattle.sum.specs.Sample.{side_of, settled}
 use Rattle.sum.specs.Product.{product_of}
@@ -67,7 +67,7 @@ sizes (negsuc a) (negsuc b) s r d =
 product_inside : (S x : ℤ) → Between 32768 32767 S → Between 16384 16384 x → (Lowest S x → ⊥) → side_of (floor (S *ℤ x) 16384) ≡ Within
 product_inside S x s r d = let k = sizes S x s r d in floor_inside (S *ℤ x) (omega (arith, of_mul S x)) (omega (arith, of_mul S x))
 
-too_large : (amplitude : ℕ) (x : ℤ) → signed_of amplitude ≡ neg_ℤ (pos 32768) → x ≡ neg_ℤ (pos 16384) → product_of amplitude x ≡ Overflow
+too_large : (amplitude : ℕ) (x : ℤ) → signed_of amplitude ≡ neg_ℤ (pos 32768) → x ≡ neg_ℤ (pos 16384) → product_of amplitude x ≡ None
 unfolding side_of
 too_large amplitude x e f = ap (λ (S : ℤ). settled (floor (S *ℤ x) 16384)) e ∙ ap (λ (y : ℤ). settled (floor (negsuc 32767 *ℤ y) 16384)) f
 

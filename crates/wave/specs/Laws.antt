@@ -1,8 +1,7 @@
 -- What the sine does for every wave table: its range, how near it is to amplitude × word / 16384, and the symmetries of the quarter wave.
-use Rattle.std.specs.Prelude.{◌≡◌, List, ℕ, ◌+◌, ◌-◌, ◌<◌, ℤ, pos, neg_ℤ, ◌*ℤ◌, ◌≤ℤ◌}
+use Rattle.std.specs.Prelude.{◌≡◌, List, ℕ, ◌+◌, ◌-◌, ◌<◌, ℤ, pos, neg_ℤ, ◌*ℤ◌, ◌≤ℤ◌, None}
 use Rattle.word.specs.Word.{signed_of}
 use Rattle.sum.specs.declared.Side.TheVariants.{Within}
-use Rattle.sum.specs.declared.Sum.TheVariants.{Overflow}
 use Rattle.sum.specs.Floor.{IsFloor}
 use Rattle.sum.specs.Sample.{side_of}
 use Rattle.sum.specs.Product.{scaled_by, product_of}
@@ -19,7 +18,7 @@ pub record Sines (amplitude : ℕ) (x : ℤ) : Type 0 where
   pub near : IsFloor (signed_of amplitude *ℤ x) 16384 (scaled_by amplitude x)
   -- a word of 16 bits, but for −32768 × −16384
   pub within : ((signed_of amplitude ≡ neg_ℤ (pos 32768)) × (x ≡ neg_ℤ (pos 16384)) → ⊥) → side_of (scaled_by amplitude x) ≡ Within
-  pub beyond : signed_of amplitude ≡ neg_ℤ (pos 32768) → x ≡ neg_ℤ (pos 16384) → product_of amplitude x ≡ Overflow
+  pub beyond : signed_of amplitude ≡ neg_ℤ (pos 32768) → x ≡ neg_ℤ (pos 16384) → product_of amplitude x ≡ None
 
 unfoldable pub SinesRight : Type 0
 SinesRight = (amplitude : ℕ) → amplitude < 65536 → (x : ℤ) → InWave x → Sines amplitude x

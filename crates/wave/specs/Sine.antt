@@ -1,7 +1,6 @@
 -- Document 02, Two: the sine of an amplitude, from a counter of 16 bits and the wave tables, 1,024 words a channel.
-use Rattle.std.specs.Prelude.{Bool, cond, List, ℕ, ◌+◌, ◌*◌, ◌-◌, ◌/◌, ◌%◌, eqb, ℤ, neg_ℤ, get_or}
+use Rattle.std.specs.Prelude.{Bool, cond, List, ℕ, ◌+◌, ◌*◌, ◌-◌, ◌/◌, ◌%◌, eqb, ℤ, neg_ℤ, get_or, Option}
 use Rattle.word.specs.Word.{signed_of}
-use Rattle.sum.specs.declared.Sum.{Sum}
 use Rattle.sum.specs.Product.{product_of}
 
 -- 'one of 1,024 words of the channel's wave table'
@@ -35,5 +34,5 @@ unfoldable pub wave_word : List ℕ → ℕ → ℕ → ℤ
 wave_word waves c counter = cond (negates counter) (neg_ℤ (wave_at waves c (entry counter))) (wave_at waves c (entry counter))
 
 -- 'the output is floor(amplitude × word / 16384)'
-abbrev pub sine_of : List ℕ → ℕ → ℕ → ℕ → Sum
+abbrev pub sine_of : List ℕ → ℕ → ℕ → ℕ → Option ℕ
 sine_of waves c counter amplitude = product_of amplitude (wave_word waves c counter)

@@ -5,10 +5,8 @@
 ghost use Rattle.std.specs.Prelude.{◌≡◌};
 ghost use Rattle.wave.specs.Sine.{entry, wave_word, sine_of};
 
-use sum::Sum;
-
 // The output in sine mode, or none where the product is out of range.
-pub fn sine(waves: &[u16; 4096], c: u16, counter: u16, amplitude: u16) -> Sum
+pub fn sine(waves: &[u16; 4096], c: u16, counter: u16, amplitude: u16) -> Option<u16>
     ensures { result ≡ sine_of waves.now c counter amplitude }
 {
     sum::product(amplitude, wave_word(waves, c, counter))
@@ -19,7 +17,7 @@ pub fn sine(waves: &[u16; 4096], c: u16, counter: u16, amplitude: u16) -> Sum
 fn wave_word(waves: &[u16], c: u16, counter: u16) -> i32
     ensures { result ≡ wave_word waves.now c counter }
 {
-    let at = 1024 * (c as usize) + entry_of(counter) as usize;
+    let at = 1024 * usize::from(c) + usize::from(entry_of(counter));
     let v = word::signed(word::get(waves, at));
     if counter / 0x8000 % 2 == 1 { -v } else { v }
 }

@@ -10,25 +10,21 @@ ghost use Rattle.word.specs.Copy.{copied};
 pub fn signed(word: u16) -> i32
     ensures { result ≡ signed_of word }
 {
-    if word < 0x8000 {
-        word as i32
-    } else {
-        (word as i32) - 0x10000
-    }
+    i32::from(word.cast_signed())
 }
 
 // A counter after one more: 65,535 goes round to 0.
 pub fn grow(count: u16) -> u16
     ensures { result ≡ grown count }
 {
-    std::num::wrapping_add_u16(count, 1)
+    count.wrapping_add(1)
 }
 
 // The smaller of two.
 pub fn least(a: usize, b: usize) -> usize
     ensures { (result ≡ min a b) × (result ≤ a) × (result ≤ b) }
 {
-    if a < b { a } else { b }
+    a.min(b)
 }
 
 // A time in microseconds, as delays and countdowns have it.
@@ -44,7 +40,7 @@ impl Samples {
     pub fn micros(self) -> Micros
         ensures { result.0 ≡ lasting self.0 }
     {
-        Micros(10 * (self.0 as u32))
+        Micros(10 * u32::from(self.0))
     }
 }
 
@@ -52,39 +48,33 @@ impl Samples {
 pub fn ends(point: usize, step: Samples) -> bool
     ensures { result ≡ is_end point step.0 }
 {
-    if 63 <= point {
-        return true;
-    }
-    step.0 == 0
+    63 <= point || step.0 == 0
 }
 
 // The word at a place of lent words; past their end it is 0.
 pub fn get(words: &[u16], at: usize) -> u16
     ensures { result ≡ slice_index words.now at }
 {
-    if at < words.len() { words[at] } else { 0 }
+    words.get(at).copied().unwrap_or(0)
 }
 
-// Stores a word at a place of lent words; past their end nothing is stored.
-pub fn put(words: &mut [u16], at: usize, word: u16)
-    ensures { words.new ≡ slice_set words.old at word }
+// Stores an item at a place of lent items, as words or bytes; past their end nothing is stored. Not by `get_mut`: std's contract says nothing
+// of the slice after it, and the proof did not close.
+pub fn put<T: Copy>(items: &mut [T], at: usize, item: T)
+    ensures { items.new ≡ slice_set items.old at item }
 {
-    if at < words.len() {
-        words[at] = word;
+    if at < items.len() {
+        items[at] = item;
     }
 }
 
-// Copies n words from a place of one list on to a place of another and on; past its end nothing is stored.
+// Copies n words from a place of one list on to a place of another and on; past its end nothing is stored. By place, as the promise goes past
+// both ends; by `as`, since std has no From of u32 for usize.
 #[tactic(auto, unfolding(crate::specs::Copy::copied))]
 pub fn copy(words: &[u16], from: u32, into: &mut [u16], to: u32, n: u32)
     ensures { into.new ≡ copied n words.now from into.old to }
 {
-    let source = from as usize;
-    let target = to as usize;
-    let count = n as usize;
-    let mut i: usize = 0;
-    while i < count {
-        put(into, target + i, get(words, source + i));
-        i = i + 1;
+    for i in 0..n as usize {
+        put(into, to as usize + i, get(words, from as usize + i));
     }
 }

@@ -1,26 +1,28 @@
--- `card::advance`: the four channels, each over the tables that the one before left, then the four outputs.
-use mathlib.Core.Path.{ap, ◌∙◌}
-use mathlib.Core.List.{List}
-use Rattle.channel.specs.declared.Channel.{Channel}
-use Rattle.card.specs.Card.{state, with_channels}
+-- `card::advance`: one channel's tick more, and both passes of all four.
+use Rattle.std.proofs.Common.{ap, sym, ◌∙◌, rules, arith}
+use Rattle.channel.specs.declared.Ticked.{Ticked}
+use Rattle.channel.specs.Channel.{sounded, tick_of}
+use Rattle.card.specs.declared.Card.{Card}
+use Rattle.card.specs.Card.{All, state, with_channels}
 use Rattle.card.specs.Active.{showing}
-use Rattle.card.specs.Tick.{Pass, second_pass, advanced}
-use Rattle.card.proofs.All.{list4, all_moved}
+use Rattle.card.specs.Tick.{advanced}
+use Rattle.card.proofs.All.{none, more, all_four, two_passes}
 use Rattle.card.proofs.advance.Goals as goal
 
+pub loop-c-init : goal.loop-c-init
+loop-c-init c = none _ _ _
+
+pub loop-c-preserved : goal.loop-c-preserved
+unfolding tick_of
+loop-c-preserved c =
+    let e = ap (λ (k : Card). k.edition) c.loop-c.invariant.card in
+    let m = rw e at c.move_ramp-t.ensures in
+    more _ _ _ _ c.loop-c.invariant (record { channel = c.make_output.ensures ∙ ap (λ (t : Ticked). sounded c.args.waves.now c.loop-c.c t.channel t.gave) m.0; tables = m.1 })
+
 pub returns : goal.returns
-unfolding advanced second_pass
+unfolding advanced
 returns c =
     let a = c.args in
-    let r =
-    all_moved (state a.card a.settings.now a.tables.now)
-    (record { handed = c.move_ramp-a.ensures.0; tables = c.move_ramp-a.ensures.1 })
-    (record { handed = c.move_ramp-b.ensures.0; tables = c.move_ramp-b.ensures.1 })
-    (record { handed = c.move_ramp-c.ensures.0; tables = c.move_ramp-c.ensures.1 })
-    (record { handed = c.move_ramp-d.ensures.0; tables = c.move_ramp-d.ensures.1 }) in (
-      c.show.ensures
-          ∙ ap (λ (chs : List Channel). showing (with_channels a.card chs))
-          (list4 c.output_made.ensures c.output_made-2.ensures c.output_made-3.ensures c.output_made-4.ensures)
-          ∙ ap (λ (p : Pass). showing (with_channels a.card (second_pass a.waves.now p))) r.0,
-      r.1,
-    )
+    let r = all_four _ _ _ (search rules) (omega arith) c.loop-c.invariant in
+    let e = sym (two_passes a.waves.now (state a.card.now a.settings.now a.tables.now)) in
+    (c.show.ensures ∙ ap showing (r.0 ∙ ap (λ (x : All). with_channels a.card.now x.channels) e), r.1 ∙ ap (λ (x : All). x.tables) e)

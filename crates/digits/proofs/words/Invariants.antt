@@ -1,11 +1,8 @@
 -- `digits::words`: the words before place i are stored.
-use Rattle.std.proofs.Common.{length, ◌-◌, ◌≡◌, ◌≤◌}
+use Rattle.std.proofs.Common.{length, ◌≡◌}
 use Rattle.std.proofs.lemmas.List.Edits.{sets}
 use Rattle.digits.specs.Digits.{words_from}
 use Rattle.digits.proofs.words.Given as goal
 
 abbrev pub invariant-loop-i : goal.invariant-loop-i
-invariant-loop-i l = (l.i ≤ l.n) × (l.words ≡ sets l.initial.words 0 (words_from l.at l.i l.s)) × (length l.words ≡ length l.initial.words)
-
-abbrev pub decreases-loop-i : goal.decreases-loop-i
-decreases-loop-i l = l.count - l.i
+invariant-loop-i l = (l.words ≡ sets l.initial.words 0 (words_from l.at l.i l.s)) × (length l.words ≡ length l.initial.words)

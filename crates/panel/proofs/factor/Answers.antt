@@ -6,4 +6,4 @@ use Rattle.panel.proofs.factor.Goals as goal
 
 pub returns : goal.returns
 unfolding of_bits
-returns c = meets by_factor 1 8 factor_is (lit≤ tt) (lit≤ tt) _ _ c.ranges.word.fits c.signed.ensures
+returns c = rw c.from.ensures (meets by_factor 1 8 factor_is (lit≤ tt) (lit≤ tt) _ _ c.ranges.word.fits c.signed.ensures)

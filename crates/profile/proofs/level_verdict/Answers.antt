@@ -2,8 +2,8 @@
 use Rattle.profile.proofs.Points.{walked}
 use Rattle.profile.proofs.level_verdict.Goals as goal
 
-pub returns-in-Nowhere : goal.returns-in-Nowhere
-returns-in-Nowhere c = λ ed. walked ed c.args.settings.now c.args.c c.args.level c.settings_for-loaded.ensures c.first_out.ensures _ c.in-Nowhere.is
+pub returns-in-None : goal.returns-in-None
+returns-in-None c = λ ed. walked ed c.args.settings.now c.args.c c.args.level c.settings_for-loaded.ensures c.first_out.ensures _ c.in-None.is
 
-pub returns-in-At : goal.returns-in-At
-returns-in-At c = λ ed. walked ed c.args.settings.now c.args.c c.args.level c.settings_for-loaded.ensures c.first_out.ensures _ c.in-At.is
+pub returns-in-Some : goal.returns-in-Some
+returns-in-Some c = λ ed. walked ed c.args.settings.now c.args.c c.args.level c.settings_for-loaded.ensures c.first_out.ensures _ c.in-Some.is

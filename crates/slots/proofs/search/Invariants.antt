@@ -1,10 +1,7 @@
 -- `slots::search`: the search from slot n on has the answer of the whole search.
-use Rattle.std.proofs.Common.{◌-◌, ◌≡◌, ◌≤◌}
+use Rattle.std.proofs.Common.{unwrap_or, ◌-◌, ◌≡◌}
 use Rattle.slots.specs.Slots.{holder_from}
 use Rattle.slots.proofs.search.Given as goal
 
 abbrev pub invariant-loop-n : goal.invariant-loop-n
-invariant-loop-n l = (l.n ≤ 256) × (holder_from l.words l.event l.but (256 - l.n) l.n ≡ holder_from l.words l.event l.but 256 0)
-
-abbrev pub decreases-loop-n : goal.decreases-loop-n
-decreases-loop-n l = 256 - l.n
+invariant-loop-n l = holder_from l.words l.event (unwrap_or l.but 32) (256 - l.n) l.n ≡ holder_from l.words l.event (unwrap_or l.but 32) 256 0

@@ -20,8 +20,8 @@ size32 (pos n) h = omega arith
 size32 (negsuc n) h = omega arith
 
 module _ (a : ℕ) (ha : a < 2 ^ 16) (w : ℤ) (hw : SFits w32 w) where
-  wide_is : to_z w64 (of_z w64 (to_z w32 (of_z w32 w))) ≡ w
-  wide_is = back w64 w (to_z-of_z hw) (size32 w hw.sfits) tt
+  wide_is : (r : ℤ) → r ≡ to_z w32 (of_z w32 w) → to_z w64 (of_z w64 r) ≡ w
+  wide_is r e = back w64 w (e ∙ to_z-of_z hw) (size32 w hw.sfits) tt
 
   product_size : nat_abs (signed_of a *ℤ w) ≤ 2 ^ 15 * 2 ^ 31
   product_size = size_mul (signed_of a) w (size a ha) (size32 w hw.sfits)
@@ -29,11 +29,11 @@ module _ (a : ℕ) (ha : a < 2 ^ 16) (w : ℤ) (hw : SFits w32 w) where
   amplitude_is : (r : ℤ) → r ≡ signed_of a → to_z w64 (of_z w64 r) ≡ signed_of a
   amplitude_is r e = back w64 _ e (size a ha) tt
 
-pub overflow_mul-a : goal.overflow_mul-a
-overflow_mul-a c =
+pub overflow_mul-number : goal.overflow_mul-number
+overflow_mul-number c =
     let ha = c.ranges.amplitude.fits in
     let hw = c.ranges.word in
-    rw (amplitude_is _ ha _ hw _ c.number-a.ensures, wide_is _ ha _ hw) (fits w64 _ (product_size _ ha _ hw) tt)
+    rw (amplitude_is _ ha _ hw _ c.number.ensures, wide_is _ ha _ hw _ c.from.ensures) (fits w64 _ (product_size _ ha _ hw) tt)
 
 pub returns : goal.returns
 returns c =
@@ -41,5 +41,5 @@ returns c =
     let hw = c.ranges.word in
     let p = signed_of c.args.amplitude *ℤ c.args.word in
     back w64 (floor p 16384)
-    (c.floor_div.ensures ∙ rw (amplitude_is _ ha _ hw _ c.number-a.ensures, wide_is _ ha _ hw, back w64 p refl (product_size _ ha _ hw) tt))
+    (c.floor_div.ensures ∙ rw (amplitude_is _ ha _ hw _ c.number.ensures, wide_is _ ha _ hw _ c.from.ensures, back w64 p refl (product_size _ ha _ hw) tt))
     (size_floor p 16384 (product_size _ ha _ hw)) tt

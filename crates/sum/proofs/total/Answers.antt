@@ -13,20 +13,20 @@ use Rattle.sum.proofs.Samples.{at_whole}
 use Rattle.sum.proofs.Machine.{size_above}
 use Rattle.sum.proofs.total.Goals as goal
 
-pub raised-requires : goal.raised-requires
-raised-requires c =
+pub invariant_of-raised : goal.invariant_of-raised
+invariant_of-raised c =
     let h = size _ c.ranges.from.fits in
-    rw (back w64 _ c.number.ensures h tt) (le_trans h (lit≤ tt), lit≤ tt)
+    record { bounded = rw (back w64 _ c.number-num.ensures h tt) (le_trans h (lit≤ tt)); positive = lit≤ tt }
 
-pub rounded-requires : goal.rounded-requires
-rounded-requires c =
+pub invariant_of-rounded : goal.invariant_of-rounded
+invariant_of-rounded c =
     let s : c.args.step.0 < 2 ^ 16 = search rules in
     let l : c.args.left.0 < 2 ^ 16 = search rules in
     let h = size_above (record { from16 = c.ranges.from.fits; to16 = c.ranges.to.fits; step16 = s; left16 = l }) in
-    rw (back w64 _ c.rise.ensures h tt) (h, omega arith)
+    record { bounded = rw (back w64 _ c.rise-num.ensures h tt) h; positive = omega arith }
 
-pub returns-then-d-eq0 : goal.returns-then-d-eq0
-returns-then-d-eq0 c =
+pub returns-then-den-eq0 : goal.returns-then-den-eq0
+returns-then-den-eq0 c =
     let a = c.args in
     kept w64 _ c.raised.type_inv ∙ c.raised.ensures
-    ∙ rw (back w64 _ c.number.ensures (size _ c.ranges.from.fits) tt, c.if-d-eq0.true) (sym (at_whole a.edition (signed_of a.scale) (signed_of a.offset) (signed_of a.from)))
+    ∙ rw (back w64 _ c.number-num.ensures (size _ c.ranges.from.fits) tt, c.if-den-eq0.true) (sym (at_whole a.edition (signed_of a.scale) (signed_of a.offset) (signed_of a.from)))

@@ -1,19 +1,12 @@
--- `wavetable::all_in_wave`: a word out of range decides, one in range leaves the words after it, and at the end none is left.
-use borrow.Author.Rules.{rules}
-use mathlib.Core.Path.{sym, ◌∙◌}
-use Rattle.word.proofs.Every.{stops, goes_on, all_passed}
+-- `wavetable::all_in_wave`: the chain answers with the library's test of a list, which is `every`.
+use Rattle.std.proofs.Common.{◌∙◌, rules, tests}
+use Rattle.std.proofs.lemmas.Iterator.{YieldsList-from_slice}
+use Rattle.std.proofs.lemmas.Iterator.Search.{all_from_yields_List}
+use Rattle.word.proofs.Every.{all_every}
 use Rattle.wavetable.specs.Hand.{in_wave}
 use Rattle.wavetable.proofs.all_in_wave.Goals as goal
 
-pub returns-then-not-in_wave : goal.returns-then-not-in_wave
-returns-then-not-in_wave c =
-    stops in_wave c.args.words.now c.loop-i.i c.loop-i.invariant.1 c.loop-i-test.true (sym c.in_wave.ensures ∙ c.if-not-in_wave.true)
-
-pub loop-i-preserved : goal.loop-i-preserved
-loop-i-preserved c = (
-  search rules,
-  goes_on in_wave c.args.words.now c.loop-i.i c.loop-i.invariant.1 c.loop-i-test.true (sym c.in_wave.ensures ∙ c.if-not-in_wave.false),
-)
-
 pub returns : goal.returns
-returns c = all_passed in_wave c.args.words.now c.loop-i.i c.loop-i.invariant.1 c.loop-i-test.false
+returns c =
+    let ws = c.args.words.now in
+    all_from_yields_List in_wave _ _ _ c.all.ensures.ran (YieldsList-from_slice ws cc) (λ x b q k. search (rules, tests)) ∙ all_every in_wave ws

@@ -1,10 +1,7 @@
 -- `word::copy`: i words are copied.
-use Rattle.std.proofs.Common.{◌-◌, ◌≡◌, ◌≤◌, length}
+use Rattle.std.proofs.Common.{◌≡◌, length}
 use Rattle.word.specs.Copy.{copied}
 use Rattle.word.proofs.copy.Given as goal
 
 abbrev pub invariant-loop-i : goal.invariant-loop-i
-invariant-loop-i l = (l.i ≤ l.count) × (l.into ≡ copied l.i l.words l.from l.initial.into l.to) × (length l.into ≡ length l.initial.into)
-
-abbrev pub decreases-loop-i : goal.decreases-loop-i
-decreases-loop-i l = l.count - l.i
+invariant-loop-i l = (l.into ≡ copied l.i l.words l.from l.initial.into l.to) × (length l.into ≡ length l.initial.into)
