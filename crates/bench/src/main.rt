@@ -2,7 +2,7 @@
 // fresh card of edition 1.
 #![tactic(auto)]
 
-ghost use Rattle.std.specs.Prelude.{◌+◌, ◌<◌, ◌≤◌, IfSome};
+ghost use Rattle.std.specs.Prelude.{◌≡◌, ◌+◌, ◌<◌, ◌≤◌, IfSome};
 ghost use Rattle.bench.specs.Room.{longest, last_room, Short};
 
 use arrayvec::ArrayVec;
@@ -108,7 +108,7 @@ impl Session {
         if self.line.is_empty() {
             return Ok(());
         }
-        let end = self.end_line(0);
+        let end = end_line(&mut self.bench, &mut self.line, &mut self.out, 0);
         self.write_answers(end)
     }
 
@@ -117,7 +117,7 @@ impl Session {
         let mut end = 0;
         for byte in chunk {
             if *byte == b'\n' {
-                end = self.end_line(end);
+                end = end_line(&mut self.bench, &mut self.line, &mut self.out, end);
                 if end > LAST_ROOM {
                     self.write_answers(end)?;
                     end = 0;
@@ -130,18 +130,6 @@ impl Session {
         self.write_answers(end)
     }
 
-    // A line ends: its answer is laid at place `at`, and LF ends the answer. Where it ends.
-    fn end_line(&mut self, at: usize) -> usize
-        requires { at ≤ last_room }
-        ensures { result ≤ at + longest + 1 }
-    {
-        let line = self.line.as_slice();
-        let end = at + self.bench.answer(line, &mut self.out[at..]).end;
-        self.out[end] = b'\n';
-        self.line.clear();
-        end + 1
-    }
-
     // Writes the answers, which end at `end`.
     fn write_answers(&self, end: usize) -> Result<(), Failure>
         requires { end ≤ 65536 }
@@ -150,6 +138,22 @@ impl Session {
             .write_all(&self.out[..end])
             .map_err(|_| Failure::Output)
     }
+}
+
+// A line ends: its answer is laid at place `at`, and LF ends the answer. Where it ends. No method: it is lent no stream.
+fn end_line(
+    bench: &mut Bench,
+    line: &mut ArrayVec<u8, 16395>,
+    out: &mut [u8; 65536],
+    at: usize,
+) -> usize
+    requires { at ≤ last_room }
+    ensures { result ≤ at + longest + 1 }
+{
+    let end = at + bench.answer(line.as_slice(), &mut out[at..]).end;
+    out[end] = b'\n';
+    line.clear();
+    end + 1
 }
 
 // ---- frames: each lays its answer into the first bytes of `out`. None: the line is no frame.
@@ -206,8 +210,10 @@ impl Bench {
         Answer { end: a.end }
     }
 
-    // 10, channel, words: the wave table of a channel. A line of 16,394 digits has 4,097 words at most.
-    fn hand_in(&mut self, line: &[u8], out: &mut [u8]) -> Option<Answer> {
+    // 10, channel, words: the wave table of a channel; all else of the card stays. A line of 16,394 digits has 4,097 words at most.
+    fn hand_in(&mut self, line: &[u8], out: &mut [u8]) -> Option<Answer>
+        ensures { (self.new.settings ≡ self.old.settings) × (self.new.tables ≡ self.old.tables) × (self.new.card ≡ self.old.card) }
+    {
         let count = words_after(line, 4, 4097)?;
         let mut words = [0; 4097];
         digits::words(line, 4, count, &mut words);
@@ -223,8 +229,10 @@ impl Bench {
         Some(Answer { end: 4 })
     }
 
-    // 11, start, count, words: a write of `count` from a slice of these words.
-    fn write_slice(&mut self, line: &[u8], out: &mut [u8]) -> Option<Answer> {
+    // 11, start, count, words: a write of `count` from a slice of these words. No wave table is changed.
+    fn write_slice(&mut self, line: &[u8], out: &mut [u8]) -> Option<Answer>
+        ensures { self.new.waves ≡ self.old.waves }
+    {
         let count = words_after(line, 10, 4096)?;
         let mut words = [0; 4096];
         digits::words(line, 10, count, &mut words);

@@ -69,7 +69,7 @@ impl Session {
     fn serve(&mut self) -> Result<(), Failure> {
         let mut chunk = [0; 65536];
         for _ in 0..u64::MAX {
-            let bytes = self.read_some(&mut chunk)?;
+            let bytes = read_some(self.frames, &mut chunk)?;
             if bytes.is_empty() {
                 return self.end_input();
             }
@@ -125,16 +125,17 @@ impl Session {
             .write_all(&self.out[..end])
             .map_err(|_| Failure::Output)
     }
+}
 
-    // Reads once. A read that fails is tried again, a hundred times in all, so that an interrupted one is not the end.
-    fn read_some<'a>(&mut self, chunk: &'a mut [u8]) -> Result<&'a [u8], Failure>
-        ensures { IfOk result (λ bytes. length bytes.now ≤ length chunk.old) }
-    {
-        for _ in 0..100 {
-            if let Ok(n) = self.frames.read(chunk) {
-                return Ok(&chunk[..n]);
-            }
+// Reads once. A read that fails is tried again, a hundred times in all, so that an interrupted one is not the end. No method: it is handed the
+// input alone, and so by its type leaves the card and writes nothing.
+fn read_some(mut frames: Stdin, chunk: &mut [u8]) -> Result<&[u8], Failure>
+    ensures { IfOk result (λ bytes. length bytes.now ≤ length chunk.old) }
+{
+    for _ in 0..100 {
+        if let Ok(n) = frames.read(chunk) {
+            return Ok(&chunk[..n]);
         }
-        Err(Failure::Input)
     }
+    Err(Failure::Input)
 }

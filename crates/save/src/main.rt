@@ -2,7 +2,7 @@
 // that is not answered 0 is told on standard error, and the rest goes on.
 #![tactic(auto)]
 
-ghost use Rattle.std.specs.Prelude.{◌≤◌};
+ghost use Rattle.std.specs.Prelude.{◌≡◌};
 
 use card::Card;
 use std::io::{Print, Read};
@@ -26,13 +26,20 @@ impl fmt::Display for Failure {
     }
 }
 
+// How many lines were played, and how many of them were not answered 0; and where it is told which. It is lent an answer, and so by its type
+// leaves the card.
+#[derive(Drop)]
+struct Tally {
+    words: Stderr,
+    played: u64,
+    refused: u64,
+}
+
 // A session.
 #[derive(Drop)]
 struct Session {
     lines: Stdin,
     saved: Stdout,
-    // Where it is told what was refused.
-    words: Stderr,
     settings: [u16; 16960],
     tables: [u16; 512],
     waves: [u16; 4096],
@@ -41,9 +48,7 @@ struct Session {
     held: usize,
     card: Card,
     answer: [u8; 265],
-    // How many lines were played, and how many of them were not answered 0.
-    played: u64,
-    refused: u64,
+    tally: Tally,
 }
 
 // The session on a reset card. What ends it early is told on standard error, and where that cannot be written there is nobody to tell.
@@ -55,7 +60,6 @@ fn main(rt: HostRuntime) {
     let mut session = Session {
         lines: rt.stdin(),
         saved: rt.stdout(),
-        words: rt.stderr(),
         settings,
         tables,
         waves,
@@ -63,8 +67,11 @@ fn main(rt: HostRuntime) {
         held: 0,
         card,
         answer: [0; 265],
-        played: 0,
-        refused: 0,
+        tally: Tally {
+            words: rt.stderr(),
+            played: 0,
+            refused: 0,
+        },
     };
     if let Err(failure) = session.serve() {
         let _ = eprintln!(rt; "save: {failure}");
@@ -96,8 +103,10 @@ impl Session {
         Ok(())
     }
 
-    // Plays bytes one after the other, so that each call gives one answer at most.
-    fn play(&mut self, bytes: &[u8]) {
+    // Plays bytes one after the other, so that each call gives one answer at most. No wave table is changed.
+    fn play(&mut self, bytes: &[u8])
+        ensures { self.new.waves ≡ self.old.waves }
+    {
         for byte in bytes {
             let s = line::feed(
                 &mut self.settings,
@@ -111,7 +120,7 @@ impl Session {
             );
             self.card = s.card;
             self.held = s.held;
-            self.count(s.end);
+            self.tally.count(&self.answer[..s.end]);
         }
     }
 
@@ -126,34 +135,32 @@ impl Session {
             self.card,
             self.held,
         );
-        self.count(s.end);
-        if self.refused > 0 {
-            let _ = self.sum_up();
+        self.tally.count(&self.answer[..s.end]);
+        if self.tally.refused > 0 {
+            let _ = self.tally.sum_up();
         }
         let n = saved::written(saved::save(&self.settings, out)).min(out.len());
         self.saved.write_all(&out[..n]).map_err(|_| Failure::Output)
     }
+}
 
-    // Counts the line that the first `end` bytes answer, if they answer one, and tells it if it was refused.
-    fn count(&mut self, end: usize)
-        requires { end ≤ 265 }
-    {
-        if end == 0 {
+impl Tally {
+    // Counts the line of an answer, if there is one, and tells it if it was refused.
+    fn count(&mut self, answer: &[u8]) {
+        if answer.is_empty() {
             return;
         }
         self.played = self.played.saturating_add(1);
-        if line::refused(&self.answer[..end]) {
+        if line::refused(answer) {
             self.refused = self.refused.saturating_add(1);
-            let _ = self.tell(end);
+            let _ = self.tell(answer);
         }
     }
 
     // The line that is refused. Its answer, which ends with LF, is bytes, and a format takes none.
-    fn tell(&self, end: usize) -> io::Result<()>
-        requires { end ≤ 265 }
-    {
+    fn tell(&self, answer: &[u8]) -> io::Result<()> {
         eprint!(self.words; "save: line {} is answered ", self.played)?;
-        self.words.write_all(&self.answer[..end])
+        self.words.write_all(answer)
     }
 
     // What was refused, in all.

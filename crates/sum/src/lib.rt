@@ -91,12 +91,15 @@ pub fn side_of(sum: i64) -> Side
     }
 }
 
-// The sample of a sum: only this last sum is checked.
+// The sample of a sum: only this last sum is checked, by the side that it lies on.
 #[tactic(auto, unfolding(crate::specs::Sample::side_of))]
 pub fn settle(sum: i64) -> Option<u16>
     ensures { result ≡ settled sum }
 {
-    i16::try_from(sum).ok().map(|number| number.cast_unsigned())
+    match side_of(sum) {
+        Side::Below | Side::Above => None,
+        Side::Within => Some((sum as i16).cast_unsigned()),
+    }
 }
 
 // A word's number, with room for products: one name for the two conversions, which six places need.

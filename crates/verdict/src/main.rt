@@ -51,20 +51,21 @@ fn read_full(mut input: Stdin, buffer: &mut [u8]) -> &[u8]
 
 // Says the verdict on the bench, if it is a saved one.
 fn judge(output: Stdout, bench: &[u8]) -> Result<(), Failure> {
-    let settings = settings_of(bench).ok_or(Failure::Bench)?;
+    let mut settings = [0; 16960];
+    play(bench, &mut settings)?;
     say(output, profile::check(&settings)).map_err(|_| Failure::Output)
 }
 
-// The settings of a card on which the bench was played, if they are these bytes when they are saved.
-fn settings_of(bench: &[u8]) -> Option<[u16; 16960]> {
-    let mut settings = [0; 16960];
+// Plays the bench on a card of these settings. Saved again they are the bench's bytes, or no saved bench came in. They are lent: handed back
+// they would lie on the stack three times.
+fn play(bench: &[u8], settings: &mut [u16; 16960]) -> Result<(), Failure> {
     let mut tables = [0; 512];
     let mut waves = [0; 4096];
     let mut line = [0; 263];
     let mut out = [0; 65536];
-    let card = line::start(&mut settings, &mut tables, &mut waves);
+    let card = line::start(settings, &mut tables, &mut waves);
     line::feed(
-        &mut settings,
+        settings,
         &mut tables,
         &waves,
         &mut line,
@@ -73,8 +74,12 @@ fn settings_of(bench: &[u8]) -> Option<[u16; 16960]> {
         0,
         bench,
     );
-    let n = saved::written(saved::save(&settings, &mut out)).min(out.len());
-    (bench == &out[..n]).then_some(settings)
+    let n = saved::written(saved::save(settings, &mut out)).min(out.len());
+    if bench == &out[..n] {
+        Ok(())
+    } else {
+        Err(Failure::Bench)
+    }
 }
 
 // The verdict in words: the ramp that breaks the profile, and its first point that does.
