@@ -78,8 +78,10 @@ impl Session {
         Ok(())
     }
 
-    // The end of the input: the last line may lack its LF.
-    fn end_input(&mut self) -> Result<(), Failure> {
+    // The end of the input: the last line may lack its LF. No wave table is changed, nor the open line.
+    fn end_input(&mut self) -> Result<(), Failure>
+        ensures { (self.new.waves ≡ self.old.waves) × (self.new.line ≡ self.old.line) }
+    {
         let s = line::finish(
             &mut self.settings,
             &mut self.tables,

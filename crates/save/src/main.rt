@@ -124,8 +124,11 @@ impl Session {
         }
     }
 
-    // The end of the input: the last line may lack its LF. What was refused is summed up, and the settings are written as lines.
-    fn end_input(&mut self, out: &mut [u8]) -> Result<(), Failure> {
+    // The end of the input: the last line may lack its LF. What was refused is summed up, and the settings are written as lines. No wave table
+    // is changed, nor the open line.
+    fn end_input(&mut self, out: &mut [u8]) -> Result<(), Failure>
+        ensures { (self.new.waves ≡ self.old.waves) × (self.new.line ≡ self.old.line) }
+    {
         let s = line::finish(
             &mut self.settings,
             &mut self.tables,
