@@ -57,7 +57,7 @@ fn judge(output: Stdout, bench: &[u8]) -> Result<(), Failure> {
 }
 
 // Plays the bench on a card of these settings. Saved again they are the bench's bytes, or no saved bench came in. They are lent: handed back
-// they would lie on the stack three times.
+// they would lie on the stack three times more.
 fn play(bench: &[u8], settings: &mut [u16; 16960]) -> Result<(), Failure> {
     let mut tables = [0; 512];
     let mut waves = [0; 4096];
